@@ -1,0 +1,22 @@
+-- A byte, or 0 past the end. Assumes nothing.
+use mathlib.Core.Path.{sym}
+use native.Mathlib.Omega.{arith}
+use borrow.Author.Needs.{needs}
+use lib.ListN.{List·getD-eq-default}
+use Rattle.edit.proofs.byte.Statement.{statement}
+use Rattle.edit.proofs.byte.Tie as tie
+
+returns : tie.Need-returns
+returns c = (sym (List·getD-eq-default (c .before .before .args .b .now) 0 (c .if1 .taken)), omega arith)
+
+shared-slice-read-wide : tie.Need-shared-slice-read-wide
+shared-slice-read-wide c = search needs
+
+wide-requires : tie.Need-wide-requires
+wide-requires c κs = search needs
+
+returns-2 : tie.Need-returns-2
+returns-2 c = search needs
+
+pub byte-spec : {M : Type 1} → statement M
+byte-spec = tie.close (tie.spec returns shared-slice-read-wide wide-requires returns-2)

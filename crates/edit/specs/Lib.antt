@@ -1,0 +1,4 @@
+pub mod Record
+pub mod Taken
+pub mod ByKind
+pub mod Answer

@@ -1,0 +1,58 @@
+use borrow.Author.Needs.{needs}
+use native.Mathlib.Numerals.{add-one}
+use Prim.Native.Nat.{_-_, _≤_, zero-le}
+use Rattle.linked_list.proofs.View.{ends, inserts-back}
+use Rattle.linked_list.proofs.insert_at_back.Statement.{statement}
+use Rattle.linked_list.proofs.insert_at_back.Tie as tie
+use Rattle.linked_list.proofs.insert_at_back.Reads as reads
+use Rattle.linked_list.proofs.insert_at_back.Lts as lts
+use Rattle.linked_list.proofs.store.Reads as store-reads
+
+add-p : tie.Need-add-p
+add-p c = search needs
+
+mul-p : tie.Need-mul-p
+mul-p c = search needs
+
+slice-read-p : tie.Need-slice-read-p
+slice-read-p c = search needs
+
+add-k : tie.Need-add-k
+add-k c = search needs
+
+cast-k : tie.Need-cast-k
+cast-k c = search needs
+
+add-z : tie.Need-add-z
+add-z c = search needs
+
+cast-z : tie.Need-cast-z
+cast-z c = search needs
+
+store-requires : tie.Need-store-requires
+store-requires c κs =
+    let b = c .before .before .before in
+    (b .pre .0, (b .pre .1 .0 .size, (b .pre .1 .1 .0 .0, ((ends (b .pre .1 .0) (b .args .c) (b .pre .1 .1 .0 .0) .tail≤, zero-le), b .pre .1 .1 .0 .1))))
+
+same-length : tie.Need-same-length
+same-length c = search needs
+
+returns : tie.Need-returns
+returns c =
+    let b = c .before .before .before .before .before .before in
+    rw (c .before .before .store .ensures, add-one (b .args .n), add-one (b .args .c)) (inserts-back (b .pre .1 .0) (b .args .n) (b .pre .1 .1 .0 .1) (b .pre .1 .1 .1) (b .args .c) (b .pre .1 .1 .0 .0))
+
+pub insert-at-back-spec : {M : Type 1} → statement M
+insert-at-back-spec =
+    tie.close
+    (tie.spec
+    add-p
+    mul-p
+    slice-read-p
+    add-k
+    cast-k
+    add-z
+    cast-z
+    store-requires
+    same-length
+    returns)

@@ -1,0 +1,1 @@
+// Pure mathematics: see specs/ and proofs/. Nothing of this crate runs.

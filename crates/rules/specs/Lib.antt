@@ -1,0 +1,15 @@
+pub mod Table
+pub mod History
+pub mod Orders
+pub mod State
+pub mod Verdict
+pub mod Refusal
+pub mod Step
+pub mod Script
+pub mod Listing
+pub mod Calls
+pub mod Told
+pub mod Demand
+pub mod Sound
+pub mod Refine
+pub mod Examples

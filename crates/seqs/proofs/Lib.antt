@@ -1,0 +1,4 @@
+pub mod Base
+pub mod Sums
+pub mod Says
+pub mod Parts

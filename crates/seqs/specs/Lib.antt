@@ -1,0 +1,3 @@
+pub mod Seqs
+pub mod Split
+pub mod Entries

@@ -1,0 +1,7 @@
+pub mod Laws
+pub mod Numbers
+pub mod Cells
+pub mod Facts
+pub mod Canon
+pub mod Quick
+pub mod Live

@@ -13,7 +13,7 @@ use Rattle.seqs.proofs.Base.{upd-at, upd-same, upd-other, upd2-same, upd2-cases
 
 -- ---- tables
 
-lookup-new : (l : List (ℕ × ℕ)) (n p : ℕ) → count ℕ-discrete p (places l) ≡ 0 → (q : ℕ) → lookup (l ++ (n, p) ∷ []) q ≡ upd ℕ-discrete (lookup l) p n q
+pub lookup-new : (l : List (ℕ × ℕ)) (n p : ℕ) → count ℕ-discrete p (places l) ≡ 0 → (q : ℕ) → lookup (l ++ (n, p) ∷ []) q ≡ upd ℕ-discrete (lookup l) p n q
 unfolding upd
 lookup-new [] n p z q = refl
 lookup-new (e ∷ l) n p z q = go (lookup-new l n p (omega arith) q) (ℕ-discrete q (e .1)) (ℕ-discrete q p)

@@ -117,7 +117,7 @@ cut-cut p q P = λ i. record {
   tab = λ k. record { cap = P .tab k .cap; next = P .tab k .next; num = λ n. pick-pick (p (k, n)) (q (k, n)) (P .tab k .num n) 0 i; order = sift-sift (λ n. q (k, n)) (λ n. p (k, n)) (P .tab k .order) i };
   list = λ c r. sift-sift q p (P .list c r) i;
   own = λ x f. pick-pick (p x) (q x) (P .own x f) none i;
-  tag = P .tag;
+  tag = λ x. pick-pick (p x) (q x) (P .tag x) 0 i;
 }
 
 pub cut-same : (p q : Thing → ℕ) (P : State) → ((x : Thing) → sgn (p x) ≡ sgn (q x)) → cutBy p P ≡ cutBy q P
@@ -126,7 +126,7 @@ cut-same p q P h = λ i. record {
   tab = λ k. record { cap = P .tab k .cap; next = P .tab k .next; num = λ n. pick-same (p (k, n)) (q (k, n)) (P .tab k .num n) 0 (h (k, n)) i; order = sift-on ℕ-discrete (λ n. p (k, n)) (λ n. q (k, n)) (P .tab k .order) (λ n _. h (k, n)) i };
   list = λ c r. sift-on Thing-dec p q (P .list c r) (λ x _. h x) i;
   own = λ x f. pick-same (p x) (q x) (P .own x f) none (h x) i;
-  tag = P .tag;
+  tag = λ x. pick-same (p x) (q x) (P .tag x) 0 (h x) i;
 }
 
 pub cut-append : (l m : List Thing) (P : State) → cutAll m (cutAll l P) ≡ cutAll (l ++ m) P
@@ -237,7 +237,7 @@ module _ (p : Thing → ℕ) (P : State) where
           held = λ r c x. count-sift Thing-dec p x (P .list c r) ∙ ap (λ (n : ℕ). pick (p x) n 0) (S .held r c x) ∙ sym (owns-cut (P .own x (fam r)) (r, c) (p x));
           link = link-cut S;
           short = λ c r m. omega (arith, S .short c r m, sift-length p (P .list c r));
-          flags = λ q h. S .flags q (live-cut (op, q) h .1);
+          flags = λ q h. rw (pick-0 (p (op, q)) (P .tag (op, q)) 0 (live-cut (op, q) h .0)) (S .flags q (live-cut (op, q) h .1));
           ends = λ x. ends-cut (S .ends x);
         }
 

@@ -72,7 +72,7 @@ module _ {P : State} (S : Linked P) (a : Thing) (alone : (f : Fam) → P .own a 
 
   pub end-cut : end a P ≡ cutAll (a ∷ []) P
   unfolding end cutBy
-  end-cut = λ i. record { tab = λ k. tables k i; list = λ c r. listed′ c r i; own = λ x f. owned x f i; tag = P .tag }
+  end-cut = λ i. record { tab = λ k. tables k i; list = λ c r. listed′ c r i; own = λ x f. owned x f i; tag = λ x. tagged x i }
     where
       listed′ : (c : Thing) (r : Role) → P .list c r ≡ sift (one a) (P .list c r)
       listed′ c r = sym (sift-all Thing-dec (one a) (P .list c r) (λ x i. one-no a x (λ e. absurd (omega (arith, S .held r c a, ap (λ (o : Option Con). owns o (r, c)) (alone (fam r)), owns-none (r, c), ap (λ (t : Thing). count Thing-dec t (P .list c r)) e)))))
@@ -83,10 +83,16 @@ module _ {P : State} (S : Linked P) (a : Thing) (alone : (f : Fam) → P .own a 
           (λ e. ap (λ (t : Thing). P .own t f) e ∙ alone f ∙ sym (pick-1 (one a x) (P .own x f) none (one-yes a x e)))
           (λ n. sym (pick-0 (one a x) (P .own x f) none (one-no a x n)))
 
+      tagged : (x : Thing) → upd Thing-dec (P .tag) a 0 x ≡ pick (one a x) (P .tag x) 0
+      tagged x =
+          by-cases (Thing-dec x a)
+          (λ e. upd-at Thing-dec (P .tag) a 0 e ∙ sym (pick-1 (one a x) (P .tag x) 0 (one-yes a x e)))
+          (λ n. upd-other Thing-dec (P .tag) a 0 n ∙ sym (pick-0 (one a x) (P .tag x) 0 (one-no a x n)))
+
 -- what leaves a list before it is cut
 pub leave-cut : (P : State) (c : Con) (x : Thing) → cutAll (x ∷ []) (leave c x P) ≡ cutAll (x ∷ []) P
 unfolding cutBy leave relink setOwn setList
-leave-cut P c x = λ i. record { tab = λ k. goneBy (λ q. one x (k, q)) (P .tab k); list = λ b r. sifted b r i; own = λ y f. owned y f i; tag = P .tag }
+leave-cut P c x = λ i. record { tab = λ k. goneBy (λ q. one x (k, q)) (P .tab k); list = λ b r. sifted b r i; own = λ y f. owned y f i; tag = λ y. pick (one x y) (P .tag y) 0 }
   where
     Q : State
     Q = leave c x P

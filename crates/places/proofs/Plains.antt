@@ -27,7 +27,7 @@ module _ {A : Type 0} (p : Rec → A) (n : ℕ) (f : Rec → Rec) (keeps : (e : 
       one e (no q) = refl
 
   -- or none, where the entry does not show it
-  tabled-same : ((e : Rec) → p (f e) ≡ p e) → (l : List Rec) → tabled p (amendIn n f l) ≡ tabled p l
+  pub tabled-same : ((e : Rec) → p (f e) ≡ p e) → (l : List Rec) → tabled p (amendIn n f l) ≡ tabled p l
   tabled-same h l = map-map (λ e. (e .num, p e)) (λ e. ite (ℕ-discrete (e .num) n) (f e) e) l ∙ ap (λ (q : Rec → ℕ × A). map q l) (fun-ext λ e. one e (ℕ-discrete (e .num) n))
     where
       one : (e : Rec) (w : Dec (e .num ≡ n)) → _≡_ {A = ℕ × A} ((ite w (f e) e) .num, p (ite w (f e) e)) (e .num, p e)

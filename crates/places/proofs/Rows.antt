@@ -75,4 +75,4 @@ book-birth R M a t z = λ i. record { tab = λ j. upd-image Kind-dec (λ _. tabl
 
 pub book-end : (R : Rows) (M : Parts) (a : Thing) → store R (bookEnd a M) ≡ end a (store R M)
 unfolding store bookEnd end
-book-end R M a = λ i. record { tab = λ j. upd-image Kind-dec (λ _. tableOf) (M .books) (a .0) (goneBook (a .1) (M .books (a .0))) (gone (a .1) (tableOf (M .books (a .0)))) (book-gone (M .books (a .0)) (a .1)) j i; list = store R M .list; own = store R M .own; tag = M .tags }
+book-end R M a = λ i. record { tab = λ j. upd-image Kind-dec (λ _. tableOf) (M .books) (a .0) (goneBook (a .1) (M .books (a .0))) (gone (a .1) (tableOf (M .books (a .0)))) (book-gone (M .books (a .0)) (a .1)) j i; list = store R M .list; own = store R M .own; tag = upd Thing-dec (M .tags) a 0 }

@@ -55,7 +55,7 @@ module _ {P : State} (S : Linked P) (p : Thing → ℕ) (closed : Closed p P) (n
 
   pub rec-cut : (x : Thing) → p x ≡ 0 → recOf Q x ≡ trim n (recOf P x)
   unfolding recOf cutBy
-  rec-cut x e = λ i. record { num = num-cut x e i; tag = P .tag x; lists = λ r. (ap (shown r) (lists-cut x r) ∙ shown-sift r (n (nodeOf r)) (map (num P) (P .list x r))) i; homes = λ f. homes-cut x e f i }
+  rec-cut x e = λ i. record { num = num-cut x e i; tag = pick-0 (p x) (P .tag x) 0 e i; lists = λ r. (ap (shown r) (lists-cut x r) ∙ shown-sift r (n (nodeOf r)) (map (num P) (P .list x r))) i; homes = λ f. homes-cut x e f i }
 
   things-cut : (k : Kind) → map (λ q. recOf Q (k, q)) (Q .tab k .order) ≡ map (trim n) (sift (λ e. n k (e .num)) (map (λ q. recOf P (k, q)) (P .tab k .order)))
   unfolding cutBy recOf alive

@@ -204,7 +204,7 @@ module _ (P : State) (S : Linked P) (a : Thing) (live : Live P a) (B₁ : Bare P
 
   rec-end : (b : Thing) → b ≢ a → recOf R b ≡ recOf P b
   unfolding recOf end
-  rec-end b n = rec-kept P S a B₁ (num R) num-end b n (P .tag b) refl
+  rec-end b n = rec-kept P S a B₁ (num R) num-end b n (upd Thing-dec (P .tag) a 0 b) (upd-other Thing-dec (P .tag) a 0 n)
 
   things-end : (k : Kind) → map (λ p. recOf R (k, p)) (R .tab k .order) ≡ upd Kind-dec (view P .things) (a .0) (withoutBy ℕ-discrete (λ e. e .num) (num P a) (view P .things (a .0))) k
   unfolding end recOf alive view

@@ -252,7 +252,7 @@ end-linked {P} S a B =
       held = S .held;
       link = λ x f c e. link-end S a B x f c e;
       short = S .short;
-      flags = λ p h. by-cases (Thing-dec (op, p) a) (λ e. absurd (omega (arith, h, alive-ended P a, ap (alive (end a P)) e))) (λ n. S .flags p (omega (arith, h, alive-end P a (op, p) n)));
+      flags = λ p h. by-cases (Thing-dec (op, p) a) (λ e. absurd (omega (arith, h, alive-ended P a, ap (alive (end a P)) e))) (λ n. rw (upd-other Thing-dec (P .tag) a 0 n) (S .flags p (omega (arith, h, alive-end P a (op, p) n))));
       ends = S .ends;
     }
 

@@ -10,7 +10,7 @@ use Rattle.seqs.specs.Seqs.{tick, count, In, lastOf, frontOf, swapOut}
 use Rattle.seqs.proofs.Base.{tick-yes, tick-no, in-head, in-tail, map-on}
 
 module _ {A : Type 0} (d : Discrete A) where
-  count-front : (a y : A) (l : List A) → count d a (frontOf y l) + tick (d a (lastOf y l)) ≡ count d a (y ∷ l)
+  pub count-front : (a y : A) (l : List A) → count d a (frontOf y l) + tick (d a (lastOf y l)) ≡ count d a (y ∷ l)
   count-front a y [] = omega arith
   count-front a y (z ∷ l) = omega (arith, count-front a z l)
 

@@ -8,3 +8,5 @@ pub mod Alias
 pub mod Hist
 pub mod Verdict
 pub mod Model
+pub mod Roles
+pub mod Members

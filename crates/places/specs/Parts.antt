@@ -91,4 +91,4 @@ unfoldable pub bookBirth : Thing → ℕ → Parts → Parts
 bookBirth a t M = record { books = upd Kind-dec (M .books) (a .0) (bornBook (a .1) (M .books (a .0))); rows = M .rows; homes = M .homes; tags = upd Thing-dec (M .tags) a t }
 
 unfoldable pub bookEnd : Thing → Parts → Parts
-bookEnd a M = record { books = upd Kind-dec (M .books) (a .0) (goneBook (a .1) (M .books (a .0))); rows = M .rows; homes = M .homes; tags = M .tags }
+bookEnd a M = record { books = upd Kind-dec (M .books) (a .0) (goneBook (a .1) (M .books (a .0))); rows = M .rows; homes = M .homes; tags = upd Thing-dec (M .tags) a 0 }

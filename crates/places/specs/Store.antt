@@ -193,8 +193,9 @@ gone p t = record { cap = t .cap; next = t .next; num = upd ℕ-discrete (t .num
 unfoldable pub birth : Thing → ℕ → State → State
 birth a t P = record { tab = upd Kind-dec (P .tab) (a .0) (born (a .1) (P .tab (a .0))); list = P .list; own = P .own; tag = upd Thing-dec (P .tag) a t }
 
+-- the thing a ends; its flags or type are 0 then
 unfoldable pub end : Thing → State → State
-end a P = record { tab = upd Kind-dec (P .tab) (a .0) (gone (a .1) (P .tab (a .0))); list = P .list; own = P .own; tag = P .tag }
+end a P = record { tab = upd Kind-dec (P .tab) (a .0) (gone (a .1) (P .tab (a .0))); list = P .list; own = P .own; tag = upd Thing-dec (P .tag) a 0 }
 
 unfoldable pub setList : Con → List Thing → State → State
 setList c l P = record { tab = P .tab; list = upd Thing-dec (P .list) (c .1) (upd Role-dec (P .list (c .1)) (c .0) l); own = P .own; tag = P .tag }

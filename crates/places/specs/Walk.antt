@@ -33,7 +33,7 @@ abbrev pub goneBy : (ℕ → ℕ) → Table → Table
 goneBy p t = record { cap = t .cap; next = t .next; num = λ q. pick (p q) (t .num q) 0; order = sift p (t .order) }
 
 unfoldable pub cutBy : (Thing → ℕ) → State → State
-cutBy p P = record { tab = λ k. goneBy (λ q. p (k, q)) (P .tab k); list = λ c r. sift p (P .list c r); own = λ x f. pick (p x) (P .own x f) none; tag = P .tag }
+cutBy p P = record { tab = λ k. goneBy (λ q. p (k, q)) (P .tab k); list = λ c r. sift p (P .list c r); own = λ x f. pick (p x) (P .own x f) none; tag = λ x. pick (p x) (P .tag x) 0 }
 
 abbrev pub among : List Thing → Thing → ℕ
 among l x = count Thing-dec x l

@@ -1,0 +1,1040 @@
+// The store in one lent memory: parts of it are lent to the lower crates.
+// After context.rs, value.rs, operation.rs, basic_block.rs and region.rs of pliron 0.20.0 (Apache-2.0).
+use bits::Found;
+ghost use mathlib.Core.Path.{_≡_};
+ghost use mathlib.Core.Bool.{true, false};
+ghost use mathlib.Core.List.{[], _++_};
+ghost use mathlib.Core.Option.{Option, none, some};
+ghost use Prim.Native.Nat.{ℕ, _+_, _-_, _*_, _/_, _≤_, _<_};
+ghost use lib.ListN.{length, getD, set};
+ghost use Rattle.places.specs.Store.{State, Live, birth, end};
+ghost use Rattle.places.specs.Parts.{nodeIn};
+ghost use Rattle.context.specs.Layout.{capOf, ncOf, nnOf, sizes, total, famOf, kindOf, Caps, ArenaSize, FamiliesAt, SpanOf, RoomOf, TagsAt, TotalIs};
+ghost use Rattle.context.specs.Memory.{part, con, stateOf, Well, SoundStore, Left, Entered, Freed, Stands, RoomFor, Borne, Finished, Finds, MayTag, Tagged, HomeIs, LengthIs, RoomIs, FirstIs};
+ghost use Rattle.context.specs.Reading.{listOf, NextIs, PrevIs, LastIs, NthIs, EnteredBy, NumberIs, LiveIs, NextNumberIs, NthLiveIs, TagIs};
+ghost use Rattle.places.specs.Store.{op, blk, reg, val, usg, vals, useSets, slots, opsIn};
+ghost use Rattle.context.specs.Steps.{CanMove, Moved, EndedUse, CanBear, BorneUse, BorneOp, Zeroed, Started, DroppedAll, CanHold, BorneRegion, Unused, EndedValue, BorneBlock, CanBearValue, BorneValue, CanEnd, Ended, Member, CanLinkTo, LinkedTo, CanLinkBy, LinkedBy, Unlinked, SwappedOut, CanMoveRegion, MovedRegion};
+ghost use Rattle.context.specs.Start.{StartIs, WordsNeeded};
+ghost use Rattle.context.specs.Checked.{Headed, Fits, TableOk, FamilyOk, TablesOk, FamiliesOk, SpareAt, SpareIn, SpareOk};
+ghost use Rattle.context.specs.Layout.{HasTag};
+ghost use Rattle.arena.specs.Packed.{Packed};
+ghost use Rattle.seqs.specs.Seqs.{Says};
+
+// The capacities of the five tables.
+#[repr(C)]
+pub struct Layout {
+    pub ops: usize,
+    pub blocks: usize,
+    pub regions: usize,
+    pub values: usize,
+    pub uses: usize,
+}
+
+// Where a part stands: a family, with its numbers of containers and of nodes; or a table, with its capacity and its size.
+pub struct Span {
+    pub at: usize,
+    pub nc: usize,
+    pub nn: usize,
+}
+
+// The numbers of a table of capacity `n`.
+fn arena_size(n: usize) -> usize
+    requires { ⌜ n ≤ 16384 ⌝ }
+    ensures { λ r. ⌜ ArenaSize n r ⌝ }
+{
+    2 + n + n + (n + 63) / 64 * 2
+}
+
+// Where the table of a kind stands: operations, blocks, regions, values, uses.
+pub fn table_span(l: Layout, k: usize) -> Span
+    requires { ⌜ Caps l ⌝ }
+    ensures { λ r. ⌜ RoomOf l (kindOf k) r ⌝ }
+{
+    let a = arena_size(l.ops);
+    let b = arena_size(l.blocks);
+    let r = arena_size(l.regions);
+    let v = arena_size(l.values);
+    let u = arena_size(l.uses);
+    if k == 0 {
+        return Span {
+            at: 5,
+            nc: l.ops,
+            nn: a,
+        };
+    }
+    if k == 1 {
+        return Span {
+            at: 5 + a,
+            nc: l.blocks,
+            nn: b,
+        };
+    }
+    if k == 2 {
+        return Span {
+            at: 5 + a + b,
+            nc: l.regions,
+            nn: r,
+        };
+    }
+    if k == 3 {
+        return Span {
+            at: 5 + a + b + r,
+            nc: l.values,
+            nn: v,
+        };
+    }
+    Span {
+        at: 5 + a + b + r + v,
+        nc: l.uses,
+        nn: u,
+    }
+}
+
+// Where the families start.
+fn families_at(l: Layout) -> usize
+    requires { ⌜ Caps l ⌝ }
+    ensures { λ r. ⌜ FamiliesAt l r ⌝ }
+{
+    let a = arena_size(l.ops);
+    let b = arena_size(l.blocks);
+    let r = arena_size(l.regions);
+    let v = arena_size(l.values);
+    let u = arena_size(l.uses);
+    5 + a + b + r + v + u
+}
+
+// Where a family stands: slots, use sets, values, regions, operations in blocks, blocks in regions.
+pub fn family_span(l: Layout, f: usize) -> Span
+    requires { ⌜ Caps l ⌝ }
+    ensures { λ r. ⌜ SpanOf l (famOf f) r ⌝ }
+{
+    let a = families_at(l);
+    if f == 0 {
+        return Span {
+            at: a,
+            nc: 2 * l.ops,
+            nn: l.uses,
+        };
+    }
+    let b = a + 2 * (2 * l.ops) + 3 * l.uses;
+    if f == 1 {
+        return Span {
+            at: b,
+            nc: l.values + l.blocks,
+            nn: l.uses,
+        };
+    }
+    let c = b + 2 * (l.values + l.blocks) + 3 * l.uses;
+    if f == 2 {
+        return Span {
+            at: c,
+            nc: l.ops + l.blocks,
+            nn: l.values,
+        };
+    }
+    let d = c + 2 * (l.ops + l.blocks) + 3 * l.values;
+    if f == 3 {
+        return Span {
+            at: d,
+            nc: l.ops,
+            nn: l.regions,
+        };
+    }
+    let e = d + 2 * l.ops + 3 * l.regions;
+    if f == 4 {
+        return Span {
+            at: e,
+            nc: l.blocks,
+            nn: l.ops,
+        };
+    }
+    Span {
+        at: e + 2 * l.blocks + 3 * l.ops,
+        nc: l.regions,
+        nn: l.blocks,
+    }
+}
+
+// The node `n` leaves the list of the family `f` that it stands in.
+pub fn leave(m: &mut [u32], l: Layout, f: usize, n: usize)
+    requires { ⌜ Well l (now m) ⌝ }
+    requires { ⌜ Stands (stateOf l (now m)) (nodeIn (famOf f), n) (famOf f) ⌝ }
+    ensures { λ _. ⌜ Left l (famOf f) n (now (m .entry)) (now (m .exit)) ⌝ }
+{
+    let s = family_span(l, f);
+    let a = s.at;
+    let nc = s.nc;
+    let nn = s.nn;
+    let e = a + 2 * nc + 3 * nn;
+    linked_list::unlink(&mut m[a..e], nc, nn, n);
+}
+
+// The node `n` comes to stand at the back of the list `k` of the family `f`.
+pub fn enter_back(m: &mut [u32], l: Layout, f: usize, k: usize, n: usize)
+    requires { ⌜ Well l (now m) ⌝ }
+    requires { ⌜ (k < ncOf l (famOf f)) × (n < nnOf l (famOf f)) ⌝ }
+    requires { ⌜ stateOf l (now m) .own (nodeIn (famOf f), n) (famOf f) ≡ none ⌝ }
+    ensures { λ _. ⌜ Entered l (famOf f) k (nnOf l (famOf f)) n (now (m .entry)) (now (m .exit)) ⌝ }
+{
+    let s = family_span(l, f);
+    let a = s.at;
+    let nc = s.nc;
+    let nn = s.nn;
+    let e = a + 2 * nc + 3 * nn;
+    linked_list::insert_at_back(&mut m[a..e], nc, nn, k, n);
+}
+
+// The node `n` comes to stand at index `i` of the list `k` of the family `f`, or last.
+pub fn enter_at(m: &mut [u32], l: Layout, f: usize, k: usize, i: usize, n: usize)
+    requires { ⌜ Well l (now m) ⌝ }
+    requires { ⌜ (k < ncOf l (famOf f)) × (n < nnOf l (famOf f)) ⌝ }
+    requires { ⌜ stateOf l (now m) .own (nodeIn (famOf f), n) (famOf f) ≡ none ⌝ }
+    ensures { λ _. ⌜ Entered l (famOf f) k i n (now (m .entry)) (now (m .exit)) ⌝ }
+{
+    let s = family_span(l, f);
+    let a = s.at;
+    let nc = s.nc;
+    let nn = s.nn;
+    let e = a + 2 * nc + 3 * nn;
+    linked_list::insert_at(&mut m[a..e], nc, nn, k, i, n);
+}
+
+// A thing of the kind `k` is born at the lowest free place.
+pub fn bear(m: &mut [u32], l: Layout, k: usize) -> usize
+    requires { ⌜ Well l (now m) ⌝ }
+    requires { ⌜ RoomFor (stateOf l (now m)) (kindOf k) (capOf l (kindOf k)) ⌝ }
+    ensures { λ p. ⌜ Borne l (kindOf k) (now (m .entry)) (now (m .exit)) p ⌝ }
+{
+    let s = table_span(l, k);
+    let a = s.at;
+    let n = s.nc;
+    let e = a + s.nn;
+    arena::birth(&mut m[a..e], n)
+}
+
+// The thing of the kind `k` at the place `p`, whose flags or type are 0, ends.
+pub fn finish(m: &mut [u32], l: Layout, k: usize, p: usize)
+    requires { ⌜ Well l (now m) ⌝ }
+    requires { ⌜ Live (stateOf l (now m)) (kindOf k, p) ⌝ }
+    requires { ⌜ stateOf l (now m) .tag (kindOf k, p) ≡ 0 ⌝ }
+    ensures { λ _. ⌜ Finished l (kindOf k) p (now (m .entry)) (now (m .exit)) ⌝ }
+{
+    let s = table_span(l, k);
+    let a = s.at;
+    let n = s.nc;
+    let e = a + s.nn;
+    arena::end(&mut m[a..e], n, p);
+}
+
+// The place of the live thing of the kind `k` with this number.
+pub fn find(m: &[u32], l: Layout, k: usize, number: u32) -> Found
+    requires { ⌜ Well l (now m) ⌝ }
+    ensures { λ r. ⌜ Finds (stateOf l (now (m .entry))) (kindOf k) number r ⌝ }
+{
+    let s = table_span(l, k);
+    let a = s.at;
+    let n = s.nc;
+    let e = a + s.nn;
+    arena::find(&m[a..e], n, number)
+}
+
+// What is stored for the list of the family `f` that the node `n` stands in: its number + 1, and 0 for none.
+pub fn home_of(m: &[u32], l: Layout, f: usize, n: usize) -> usize
+    requires { ⌜ Well l (now m) ⌝ }
+    requires { ⌜ n < nnOf l (famOf f) ⌝ }
+    ensures { λ r. ⌜ HomeIs l (famOf f) n (now (m .entry)) r ⌝ }
+{
+    let s = family_span(l, f);
+    let a = s.at;
+    let nc = s.nc;
+    let nn = s.nn;
+    let e = a + 2 * nc + 3 * nn;
+    linked_list::get_home(&m[a..e], nc, nn, n)
+}
+
+// How long the list `k` of the family `f` is.
+pub fn row_length(m: &[u32], l: Layout, f: usize, k: usize) -> usize
+    requires { ⌜ Well l (now m) ⌝ }
+    requires { ⌜ k < ncOf l (famOf f) ⌝ }
+    ensures { λ r. ⌜ LengthIs l (famOf f) k (now (m .entry)) r ⌝ }
+{
+    let s = family_span(l, f);
+    let a = s.at;
+    let nc = s.nc;
+    let nn = s.nn;
+    let e = a + 2 * nc + 3 * nn;
+    linked_list::count(&m[a..e], nc, nn, k)
+}
+
+// What stands for the first of the list `k` of the family `f`: its place + 1, and 0 for none.
+pub fn first_of(m: &[u32], l: Layout, f: usize, k: usize) -> usize
+    requires { ⌜ Well l (now m) ⌝ }
+    requires { ⌜ k < ncOf l (famOf f) ⌝ }
+    ensures { λ r. ⌜ FirstIs l (famOf f) k (now (m .entry)) r ⌝ }
+{
+    let s = family_span(l, f);
+    let a = s.at;
+    let nc = s.nc;
+    let nn = s.nn;
+    let e = a + 2 * nc + 3 * nn;
+    wide(linked_list::get_head(&m[a..e], nc, nn, k))
+}
+
+// What stands for the node after `n` in its list of the family `f`: its place + 1, and 0 for none.
+pub fn next_of(m: &[u32], l: Layout, f: usize, n: usize) -> usize
+    requires { ⌜ Well l (now m) ⌝ }
+    requires { ⌜ n < nnOf l (famOf f) ⌝ }
+    ensures { λ r. ⌜ NextIs l (famOf f) n (now (m .entry)) r ⌝ }
+{
+    let s = family_span(l, f);
+    let a = s.at;
+    let nc = s.nc;
+    let nn = s.nn;
+    let e = a + 2 * nc + 3 * nn;
+    wide(linked_list::get_next(&m[a..e], nc, nn, n))
+}
+
+// What stands for the node before `n` in its list of the family `f`: its place + 1, and 0 for none.
+pub fn prev_of(m: &[u32], l: Layout, f: usize, n: usize) -> usize
+    requires { ⌜ Well l (now m) ⌝ }
+    requires { ⌜ n < nnOf l (famOf f) ⌝ }
+    ensures { λ r. ⌜ PrevIs l (famOf f) n (now (m .entry)) r ⌝ }
+{
+    let s = family_span(l, f);
+    let a = s.at;
+    let nc = s.nc;
+    let nn = s.nn;
+    let e = a + 2 * nc + 3 * nn;
+    wide(linked_list::get_prev(&m[a..e], nc, nn, n))
+}
+
+// What stands for the last of the list `k` of the family `f`: its place + 1, and 0 for none.
+pub fn last_of(m: &[u32], l: Layout, f: usize, k: usize) -> usize
+    requires { ⌜ Well l (now m) ⌝ }
+    requires { ⌜ k < ncOf l (famOf f) ⌝ }
+    ensures { λ r. ⌜ LastIs l (famOf f) k (now (m .entry)) r ⌝ }
+{
+    let s = family_span(l, f);
+    let a = s.at;
+    let nc = s.nc;
+    let nn = s.nn;
+    let e = a + 2 * nc + 3 * nn;
+    wide(linked_list::get_tail(&m[a..e], nc, nn, k))
+}
+
+// The place of the node at index `i` of the list `k` of the family `f`.
+pub fn nth_of(m: &[u32], l: Layout, f: usize, k: usize, i: usize) -> usize
+    requires { ⌜ Well l (now m) ⌝ }
+    requires { ⌜ k < ncOf l (famOf f) ⌝ }
+    requires { ⌜ i < length (listOf l (now m) (con l (famOf f) k)) ⌝ }
+    ensures { λ r. ⌜ NthIs l (famOf f) k i (now (m .entry)) r ⌝ }
+{
+    let s = family_span(l, f);
+    let a = s.at;
+    let nc = s.nc;
+    let nn = s.nn;
+    let e = a + 2 * nc + 3 * nn;
+    linked_list::nth(&m[a..e], nc, nn, k, i)
+}
+
+// The node `n` comes to stand first in the list `k` of the family `f`.
+pub fn enter_front(m: &mut [u32], l: Layout, f: usize, k: usize, n: usize)
+    requires { ⌜ Well l (now m) ⌝ }
+    requires { ⌜ (k < ncOf l (famOf f)) × (n < nnOf l (famOf f)) ⌝ }
+    requires { ⌜ stateOf l (now m) .own (nodeIn (famOf f), n) (famOf f) ≡ none ⌝ }
+    ensures { λ _. ⌜ Entered l (famOf f) k 0 n (now (m .entry)) (now (m .exit)) ⌝ }
+{
+    let s = family_span(l, f);
+    let a = s.at;
+    let nc = s.nc;
+    let nn = s.nn;
+    let e = a + 2 * nc + 3 * nn;
+    linked_list::insert_at_front(&mut m[a..e], nc, nn, k, n);
+}
+
+// The node `n` comes to stand right after the node `mark`, in the mark's list of the family `f`.
+pub fn enter_after(m: &mut [u32], l: Layout, f: usize, mark: usize, n: usize)
+    requires { ⌜ Well l (now m) ⌝ }
+    requires { ⌜ Stands (stateOf l (now m)) (nodeIn (famOf f), mark) (famOf f) ⌝ }
+    requires { ⌜ n < nnOf l (famOf f) ⌝ }
+    requires { ⌜ stateOf l (now m) .own (nodeIn (famOf f), n) (famOf f) ≡ none ⌝ }
+    ensures { λ _. ⌜ EnteredBy l (famOf f) mark n 1 (now (m .entry)) (now (m .exit)) ⌝ }
+{
+    let s = family_span(l, f);
+    let a = s.at;
+    let nc = s.nc;
+    let nn = s.nn;
+    let e = a + 2 * nc + 3 * nn;
+    linked_list::insert_after(&mut m[a..e], nc, nn, mark, n);
+}
+
+// The node `n` comes to stand right before the node `mark`, in the mark's list of the family `f`.
+pub fn enter_before(m: &mut [u32], l: Layout, f: usize, mark: usize, n: usize)
+    requires { ⌜ Well l (now m) ⌝ }
+    requires { ⌜ Stands (stateOf l (now m)) (nodeIn (famOf f), mark) (famOf f) ⌝ }
+    requires { ⌜ n < nnOf l (famOf f) ⌝ }
+    requires { ⌜ stateOf l (now m) .own (nodeIn (famOf f), n) (famOf f) ≡ none ⌝ }
+    ensures { λ _. ⌜ EnteredBy l (famOf f) mark n 0 (now (m .entry)) (now (m .exit)) ⌝ }
+{
+    let s = family_span(l, f);
+    let a = s.at;
+    let nc = s.nc;
+    let nn = s.nn;
+    let e = a + 2 * nc + 3 * nn;
+    linked_list::insert_before(&mut m[a..e], nc, nn, mark, n);
+}
+
+// Whether a place and a number are left: 0, or the refusal.
+pub fn room_for(m: &[u32], l: Layout, k: usize) -> u32
+    requires { ⌜ Well l (now m) ⌝ }
+    ensures { λ r. ⌜ RoomIs l (kindOf k) (now (m .entry)) r ⌝ }
+{
+    let s = table_span(l, k);
+    let a = s.at;
+    let n = s.nc;
+    let e = a + s.nn;
+    let x = arena::taken(&m[a..e], n);
+    if x >= n {
+        return 20;
+    }
+    let y = arena::upcoming(&m[a..e], n);
+    if y >= 4294967295 {
+        return 21;
+    }
+    0
+}
+
+// The birth number of the live thing of the kind `k` at the place `p`.
+pub fn number_of(m: &[u32], l: Layout, k: usize, p: usize) -> u32
+    requires { ⌜ Well l (now m) ⌝ }
+    requires { ⌜ Live (stateOf l (now m)) (kindOf k, p) ⌝ }
+    ensures { λ r. ⌜ NumberIs l (kindOf k) p (now (m .entry)) r ⌝ }
+{
+    let s = table_span(l, k);
+    let a = s.at;
+    let n = s.nc;
+    let e = a + s.nn;
+    arena::number_at(&m[a..e], n, p) as u32
+}
+
+// How many things of the kind `k` live.
+pub fn live_count(m: &[u32], l: Layout, k: usize) -> usize
+    requires { ⌜ Well l (now m) ⌝ }
+    ensures { λ r. ⌜ LiveIs l (kindOf k) (now (m .entry)) r ⌝ }
+{
+    let s = table_span(l, k);
+    let a = s.at;
+    let n = s.nc;
+    let e = a + s.nn;
+    arena::taken(&m[a..e], n)
+}
+
+// The number of the next birth of the kind `k`.
+pub fn next_number(m: &[u32], l: Layout, k: usize) -> u32
+    requires { ⌜ Well l (now m) ⌝ }
+    ensures { λ r. ⌜ NextNumberIs l (kindOf k) (now (m .entry)) r ⌝ }
+{
+    let s = table_span(l, k);
+    let a = s.at;
+    let n = s.nc;
+    let e = a + s.nn;
+    arena::upcoming(&m[a..e], n) as u32
+}
+
+// The place of the `i`-th live thing of the kind `k`, in rising number.
+pub fn nth_live(m: &[u32], l: Layout, k: usize, i: usize) -> usize
+    requires { ⌜ Well l (now m) ⌝ }
+    requires { ⌜ i < length (stateOf l (now m) .tab (kindOf k) .order) ⌝ }
+    ensures { λ r. ⌜ NthLiveIs l (kindOf k) i (now (m .entry)) r ⌝ }
+{
+    let s = table_span(l, k);
+    let a = s.at;
+    let n = s.nc;
+    let e = a + s.nn;
+    arena::nth_live(&m[a..e], n, i)
+}
+
+// Where the flags start.
+fn flags_at(l: Layout) -> usize
+    requires { ⌜ Caps l ⌝ }
+    ensures { λ r. ⌜ TagsAt l op r ⌝ }
+{
+    let s = family_span(l, 5);
+    s.at + 2 * s.nc + 3 * s.nn
+}
+
+// Where the types start.
+fn types_at(l: Layout) -> usize
+    requires { ⌜ Caps l ⌝ }
+    ensures { λ r. ⌜ TagsAt l val r ⌝ }
+{
+    let s = family_span(l, 5);
+    s.at + 2 * s.nc + 3 * s.nn + l.ops
+}
+
+fn wide(x: u32) -> usize
+    ensures { λ r. ⌜ r ≡ x ⌝ }
+{
+    x as usize
+}
+
+fn put_cell(s: &mut [u32], i: usize, v: u32)
+    requires { ⌜ i < length (now s) ⌝ }
+    ensures { λ _. ⌜ now (s .exit) ≡ set (now (s .entry)) i v ⌝ }
+{
+    s[i] = v;
+}
+
+fn get_cell(s: &[u32], i: usize) -> u32
+    requires { ⌜ i < length (now s) ⌝ }
+    ensures { λ r. ⌜ r ≡ getD (now (s .entry)) i 0 ⌝ }
+{
+    s[i]
+}
+
+// The operation at the place `p` gets the flags `v`; at a free place they are 0.
+pub fn put_flags(m: &mut [u32], l: Layout, p: usize, v: u32)
+    requires { ⌜ Well l (now m) ⌝ }
+    requires { ⌜ p < l .ops ⌝ }
+    requires { ⌜ MayTag (stateOf l (now m)) (op, p) v ⌝ }
+    ensures { λ _. ⌜ Tagged l (op, p) v (now (m .entry)) (now (m .exit)) ⌝ }
+{
+    let a = flags_at(l);
+    let e = a + l.ops;
+    put_cell(&mut m[a..e], p, v);
+}
+
+// The value at the place `p` gets the type `v`; at a free place it is 0.
+pub fn put_type(m: &mut [u32], l: Layout, p: usize, v: u32)
+    requires { ⌜ Well l (now m) ⌝ }
+    requires { ⌜ p < l .values ⌝ }
+    requires { ⌜ MayTag (stateOf l (now m)) (val, p) v ⌝ }
+    ensures { λ _. ⌜ Tagged l (val, p) v (now (m .entry)) (now (m .exit)) ⌝ }
+{
+    let a = types_at(l);
+    let e = a + l.values;
+    put_cell(&mut m[a..e], p, v);
+}
+
+// The flags of the operation at the place `p`.
+pub fn flags_of(m: &[u32], l: Layout, p: usize) -> u32
+    requires { ⌜ Well l (now m) ⌝ }
+    requires { ⌜ p < l .ops ⌝ }
+    ensures { λ r. ⌜ TagIs l (op, p) (now (m .entry)) r ⌝ }
+{
+    let a = flags_at(l);
+    let e = a + l.ops;
+    get_cell(&m[a..e], p)
+}
+
+// The type of the value at the place `p`.
+pub fn type_of(m: &[u32], l: Layout, p: usize) -> u32
+    requires { ⌜ Well l (now m) ⌝ }
+    requires { ⌜ p < l .values ⌝ }
+    ensures { λ r. ⌜ TagIs l (val, p) (now (m .entry)) r ⌝ }
+{
+    let a = types_at(l);
+    let e = a + l.values;
+    get_cell(&m[a..e], p)
+}
+
+// The use at the place `u` moves to the list `k` of the use sets.
+pub fn move_use(m: &mut [u32], l: Layout, u: usize, k: usize)
+    requires { ⌜ SoundStore l (now m) ⌝ }
+    requires { ⌜ k < ncOf l useSets ⌝ }
+    requires { ⌜ CanMove (stateOf l (now m)) u (con l useSets k) ⌝ }
+    ensures { λ _. ⌜ Moved l u k (now (m .entry)) (now (m .exit)) ⌝ }
+{
+    leave(m, l, 1, u); // out of the old definition's set
+    enter_back(m, l, 1, k, u);
+}
+
+// The use at the place `u` ends.
+pub fn end_use(m: &mut [u32], l: Layout, u: usize)
+    requires { ⌜ SoundStore l (now m) ⌝ }
+    requires { ⌜ Live (stateOf l (now m)) (usg, u) ⌝ }
+    ensures { λ _. ⌜ EndedUse l u (now (m .entry)) (now (m .exit)) ⌝ }
+{
+    leave(m, l, 0, u);
+    leave(m, l, 1, u);
+    finish(m, l, 4, u);
+}
+
+// A use is born at index `i` of the list `s` of the slots, held by the list `d` of the use sets.
+pub fn birth_use(m: &mut [u32], l: Layout, s: usize, i: usize, d: usize) -> usize
+    requires { ⌜ SoundStore l (now m) ⌝ }
+    requires { ⌜ (s < ncOf l slots) × (d < ncOf l useSets) ⌝ }
+    requires { ⌜ CanBear (stateOf l (now m)) (l .uses) (con l slots s) (con l useSets d) ⌝ }
+    ensures { λ u. ⌜ BorneUse l s i d (now (m .entry)) (now (m .exit)) u ⌝ }
+{
+    let u = bear(m, l, 4);
+    enter_at(m, l, 0, s, i, u);
+    enter_back(m, l, 1, d, u);
+    u
+}
+
+// An operation is born, in no block and with empty lists.
+pub fn birth_op(m: &mut [u32], l: Layout, flags: u32) -> usize
+    requires { ⌜ SoundStore l (now m) ⌝ }
+    requires { ⌜ RoomFor (stateOf l (now m)) op (l .ops) ⌝ }
+    requires { ⌜ flags ≤ 3 ⌝ }
+    ensures { λ p. ⌜ BorneOp l flags (now (m .entry)) (now (m .exit)) p ⌝ }
+{
+    let p = bear(m, l, 0);
+    put_flags(m, l, p, flags);
+    p
+}
+
+// All uses of the list `s` of the slots end: how many.
+pub fn drop_slots(m: &mut [u32], l: Layout, s: usize) -> usize
+    requires { ⌜ SoundStore l (now m) ⌝ }
+    requires { ⌜ s < ncOf l slots ⌝ }
+    ensures { λ n. ⌜ DroppedAll l s (now (m .entry)) (now (m .exit)) n ⌝ }
+{
+    let mut k = first_of(m, l, 0, s);
+    let mut n: usize = 0;
+    while k != 0 {
+        end_use(m, l, k - 1);
+        k = first_of(m, l, 0, s);
+        n += 1;
+    }
+    n
+}
+
+// The words of a store.
+pub fn size(l: Layout) -> usize
+    requires { ⌜ Caps l ⌝ }
+    ensures { λ r. ⌜ TotalIs l r ⌝ }
+{
+    let a = flags_at(l);
+    a + l.ops + l.values
+}
+
+// The first `n` numbers become 0.
+fn clear(m: &mut [u32], n: usize)
+    requires { ⌜ n ≤ length (now m) ⌝ }
+    ensures { λ _. ⌜ Zeroed n (now (m .entry)) (now (m .exit)) ⌝ }
+{
+    let mut i = 0;
+    while i < n {
+        m[i] = 0;
+        i += 1;
+    }
+}
+
+// An empty store, in a memory that has room for it.
+fn set_up(m: &mut [u32], l: Layout)
+    requires { ⌜ Caps l ⌝ }
+    requires { ⌜ total l ≤ length (now m) ⌝ }
+    ensures { λ _. ⌜ Started l (now (m .entry)) (now (m .exit)) ⌝ }
+{
+    let n = size(l);
+    clear(m, n);
+    m[0] = l.ops as u32;
+    m[1] = l.blocks as u32;
+    m[2] = l.regions as u32;
+    m[3] = l.values as u32;
+    m[4] = l.uses as u32;
+}
+
+// Starts an empty store: 0, or 5 where a capacity is 0 or over its limit, or the memory is too short.
+// A refusal keeps the memory, and the words past the store are never written.
+pub fn start(m: &mut [u32], l: Layout) -> u32
+    ensures { λ r. ⌜ StartIs l (now (m .entry)) (now (m .exit)) r ⌝ }
+{
+    let c = caps_ok(l);
+    if !c {
+        return 5;
+    }
+    let n = size(l);
+    if m.len() < n {
+        return 5;
+    }
+    set_up(m, l);
+    0
+}
+
+// How many words a store with these capacities needs; 0 where a capacity is 0 or over its limit.
+pub fn words_needed(l: Layout) -> usize
+    ensures { λ r. ⌜ WordsNeeded l r ⌝ }
+{
+    let c = caps_ok(l);
+    if !c {
+        return 0;
+    }
+    size(l)
+}
+
+// The capacities that stand in the header.
+pub fn layout_of(m: &[u32]) -> Layout
+    requires { ⌜ 5 ≤ length (now m) ⌝ }
+    ensures { λ l. ⌜ Headed l (now (m .entry)) ⌝ }
+{
+    let o = wide(m[0]);
+    let b = wide(m[1]);
+    let r = wide(m[2]);
+    let v = wide(m[3]);
+    let u = wide(m[4]);
+    Layout {
+        ops: o,
+        blocks: b,
+        regions: r,
+        values: v,
+        uses: u,
+    }
+}
+
+// Whether the capacities are some and keep their limits.
+pub fn caps_ok(l: Layout) -> bool
+    ensures { λ r. ⌜ Says r (Caps l) ⌝ }
+{
+    if l.ops > 4096 {
+        return false;
+    }
+    if l.blocks > 1024 {
+        return false;
+    }
+    if l.regions > 1024 {
+        return false;
+    }
+    if l.values > 8192 {
+        return false;
+    }
+    if l.uses > 16384 {
+        return false;
+    }
+    if l.ops == 0 {
+        return false;
+    }
+    if l.blocks == 0 {
+        return false;
+    }
+    if l.regions == 0 {
+        return false;
+    }
+    if l.values == 0 {
+        return false;
+    }
+    if l.uses == 0 {
+        return false;
+    }
+    true
+}
+
+fn table_ok(m: &[u32], l: Layout, k: usize) -> bool
+    requires { ⌜ Caps l ⌝ }
+    requires { ⌜ Fits l (now m) ⌝ }
+    ensures { λ r. ⌜ Says r (TableOk l (now (m .entry)) (kindOf k)) ⌝ }
+{
+    let s = table_span(l, k);
+    let a = s.at;
+    let n = s.nc;
+    let e = a + s.nn;
+    arena::check(&m[a..e], n)
+}
+
+fn family_ok(m: &[u32], l: Layout, f: usize) -> bool
+    requires { ⌜ Caps l ⌝ }
+    requires { ⌜ Fits l (now m) ⌝ }
+    ensures { λ r. ⌜ Says r (FamilyOk l (now (m .entry)) (famOf f)) ⌝ }
+{
+    let s = family_span(l, f);
+    let a = s.at;
+    let nc = s.nc;
+    let nn = s.nn;
+    let e = a + 2 * nc + 3 * nn;
+    linked_list::check_links(&m[a..e], nc, nn)
+}
+
+fn tables_ok(m: &[u32], l: Layout) -> bool
+    requires { ⌜ Caps l ⌝ }
+    requires { ⌜ Fits l (now m) ⌝ }
+    ensures { λ r. ⌜ Says r (TablesOk l (now (m .entry))) ⌝ }
+{
+    let mut k = 0;
+    while k < 5 {
+        let g = table_ok(m, l, k);
+        if !g {
+            return false;
+        }
+        k += 1;
+    }
+    true
+}
+
+fn families_ok(m: &[u32], l: Layout) -> bool
+    requires { ⌜ Caps l ⌝ }
+    requires { ⌜ Fits l (now m) ⌝ }
+    ensures { λ r. ⌜ Says r (FamiliesOk l (now (m .entry))) ⌝ }
+{
+    let mut f = 0;
+    while f < 6 {
+        let g = family_ok(m, l, f);
+        if !g {
+            return false;
+        }
+        f += 1;
+    }
+    true
+}
+
+// Whether the place `p` of the table `t` lives, or has a 0 among the tags `s`.
+fn place_spare(t: &[u32], s: &[u32], n: usize, p: usize) -> bool
+    requires { ⌜ Packed n (now t) × ((length (now s) ≡ n) × (p < n)) ⌝ }
+    ensures { λ r. ⌜ Says r (SpareAt n (now (t .entry)) (now (s .entry)) p) ⌝ }
+{
+    let g = arena::is_live(t, n, p);
+    if g {
+        return true;
+    }
+    if s[p] != 0 {
+        return false;
+    }
+    true
+}
+
+// Whether every free place of the table `t` has a 0 among the tags `s`.
+fn places_spare(t: &[u32], s: &[u32], n: usize) -> bool
+    requires { ⌜ Packed n (now t) × (length (now s) ≡ n) ⌝ }
+    ensures { λ r. ⌜ Says r (SpareIn n (now (t .entry)) (now (s .entry))) ⌝ }
+{
+    let mut p = 0;
+    while p < n {
+        let g = place_spare(t, s, n, p);
+        if !g {
+            return false;
+        }
+        p += 1;
+    }
+    true
+}
+
+// Where the flags of operations, or the types of values, start.
+fn tags_at(l: Layout, k: usize) -> usize
+    requires { ⌜ Caps l ⌝ }
+    requires { ⌜ HasTag (kindOf k) ⌝ }
+    ensures { λ r. ⌜ TagsAt l (kindOf k) r ⌝ }
+{
+    if k == 0 {
+        return flags_at(l);
+    }
+    types_at(l)
+}
+
+// Whether the free places of the kind `k` have no flags, or no type.
+fn spare_ok(m: &[u32], l: Layout, k: usize) -> bool
+    requires { ⌜ Caps l ⌝ }
+    requires { ⌜ Fits l (now m) ⌝ }
+    requires { ⌜ HasTag (kindOf k) ⌝ }
+    requires { ⌜ TableOk l (now m) (kindOf k) ⌝ }
+    ensures { λ r. ⌜ Says r (SpareOk l (now (m .entry)) (kindOf k)) ⌝ }
+{
+    let s = table_span(l, k);
+    let a = s.at;
+    let n = s.nc;
+    let e = a + s.nn;
+    let b = tags_at(l, k);
+    let d = b + n;
+    places_spare(&m[a..e], &m[b..d], n)
+}
+
+// Whether each part is well formed: of a memory of any contents, with the capacities of its header.
+pub fn check_parts(m: &[u32], l: Layout) -> bool
+    requires { ⌜ Headed l (now m) ⌝ }
+    ensures { λ r. ⌜ Says r (Well l (now (m .entry))) ⌝ }
+{
+    let c = caps_ok(l);
+    if !c {
+        return false;
+    }
+    let n = size(l);
+    if m.len() < n {
+        return false;
+    }
+    let t = tables_ok(m, l);
+    if !t {
+        return false;
+    }
+    let f = families_ok(m, l);
+    if !f {
+        return false;
+    }
+    let a = spare_ok(m, l, 0);
+    if !a {
+        return false;
+    }
+    let b = spare_ok(m, l, 3);
+    if !b {
+        return false;
+    }
+    true
+}
+
+// A region is born, last in the operation at the place `o`.
+pub fn birth_region(m: &mut [u32], l: Layout, o: usize) -> usize
+    requires { ⌜ SoundStore l (now m) ⌝ }
+    requires { ⌜ CanHold (stateOf l (now m)) o (l .regions) ⌝ }
+    ensures { λ p. ⌜ BorneRegion l o (now (m .entry)) (now (m .exit)) p ⌝ }
+{
+    let p = bear(m, l, 2);
+    enter_back(m, l, 3, o, p);
+    p
+}
+
+// The value at the place `p`, which nothing uses, ends.
+pub fn end_value(m: &mut [u32], l: Layout, p: usize)
+    requires { ⌜ SoundStore l (now m) ⌝ }
+    requires { ⌜ Unused (stateOf l (now m)) p ⌝ }
+    ensures { λ _. ⌜ EndedValue l p (now (m .entry)) (now (m .exit)) ⌝ }
+{
+    leave(m, l, 2, p);
+    put_type(m, l, p, 0);
+    finish(m, l, 3, p);
+}
+
+// A block is born, in no region and with empty lists.
+pub fn birth_block(m: &mut [u32], l: Layout) -> usize
+    requires { ⌜ SoundStore l (now m) ⌝ }
+    requires { ⌜ RoomFor (stateOf l (now m)) blk (l .blocks) ⌝ }
+    ensures { λ p. ⌜ BorneBlock l (now (m .entry)) (now (m .exit)) p ⌝ }
+{
+    bear(m, l, 1)
+}
+
+// A value of the type `t` is born at index `i` of the list `k` of results and arguments.
+pub fn birth_value(m: &mut [u32], l: Layout, k: usize, i: usize, t: u32) -> usize
+    requires { ⌜ SoundStore l (now m) ⌝ }
+    requires { ⌜ k < ncOf l vals ⌝ }
+    requires { ⌜ CanBearValue (stateOf l (now m)) (l .values) (con l vals k) ⌝ }
+    ensures { λ p. ⌜ BorneValue l k i t (now (m .entry)) (now (m .exit)) p ⌝ }
+{
+    let p = bear(m, l, 3);
+    put_type(m, l, p, t);
+    enter_at(m, l, 2, k, i, p);
+    p
+}
+
+// The node `n` leaves its list of the family `f`, if it is in one.
+pub fn detach(m: &mut [u32], l: Layout, f: usize, n: usize)
+    requires { ⌜ Well l (now m) ⌝ }
+    requires { ⌜ n < nnOf l (famOf f) ⌝ }
+    ensures { λ _. ⌜ Freed l (famOf f) n (now (m .entry)) (now (m .exit)) ⌝ }
+{
+    let h = home_of(m, l, f, n);
+    if h == 0 {
+        return;
+    }
+    leave(m, l, f, n);
+}
+
+// The operation at the place `o`, linked or not, with nothing in its lists, ends.
+pub fn end_operation(m: &mut [u32], l: Layout, o: usize)
+    requires { ⌜ SoundStore l (now m) ⌝ }
+    requires { ⌜ CanEnd (stateOf l (now m)) (op, o) ⌝ }
+    ensures { λ _. ⌜ Ended l (op, o) (now (m .entry)) (now (m .exit)) ⌝ }
+{
+    detach(m, l, 4, o);
+    put_flags(m, l, o, 0);
+    finish(m, l, 0, o);
+}
+
+// The block at the place `b`, linked or not, with nothing in its lists, ends.
+pub fn end_block(m: &mut [u32], l: Layout, b: usize)
+    requires { ⌜ SoundStore l (now m) ⌝ }
+    requires { ⌜ CanEnd (stateOf l (now m)) (blk, b) ⌝ }
+    ensures { λ _. ⌜ Ended l (blk, b) (now (m .entry)) (now (m .exit)) ⌝ }
+{
+    detach(m, l, 5, b);
+    finish(m, l, 1, b);
+}
+
+// The region at the place `r`, with no blocks, leaves its operation, whose other regions keep their order, and ends.
+pub fn end_region(m: &mut [u32], l: Layout, r: usize)
+    requires { ⌜ SoundStore l (now m) ⌝ }
+    requires { ⌜ CanEnd (stateOf l (now m)) (reg, r) ⌝ }
+    ensures { λ _. ⌜ Ended l (reg, r) (now (m .entry)) (now (m .exit)) ⌝ }
+{
+    detach(m, l, 3, r);
+    finish(m, l, 2, r);
+}
+
+// The operation or block `n` is put first into the list `k` of the family `f`.
+pub fn link_front(m: &mut [u32], l: Layout, f: usize, k: usize, n: usize)
+    requires { ⌜ SoundStore l (now m) ⌝ }
+    requires { ⌜ Member (famOf f) ⌝ }
+    requires { ⌜ (k < ncOf l (famOf f)) × (n < nnOf l (famOf f)) ⌝ }
+    requires { ⌜ CanLinkTo (stateOf l (now m)) (famOf f) n (con l (famOf f) k) ⌝ }
+    ensures { λ _. ⌜ LinkedTo l (famOf f) k 0 n (now (m .entry)) (now (m .exit)) ⌝ }
+{
+    enter_front(m, l, f, k, n);
+}
+
+// The operation or block `n` is put last into the list `k` of the family `f`.
+pub fn link_back(m: &mut [u32], l: Layout, f: usize, k: usize, n: usize)
+    requires { ⌜ SoundStore l (now m) ⌝ }
+    requires { ⌜ Member (famOf f) ⌝ }
+    requires { ⌜ (k < ncOf l (famOf f)) × (n < nnOf l (famOf f)) ⌝ }
+    requires { ⌜ CanLinkTo (stateOf l (now m)) (famOf f) n (con l (famOf f) k) ⌝ }
+    ensures { λ _. ⌜ LinkedTo l (famOf f) k (nnOf l (famOf f)) n (now (m .entry)) (now (m .exit)) ⌝ }
+{
+    enter_back(m, l, f, k, n);
+}
+
+// The operation or block `n` is put right after the node `mark`.
+pub fn link_after(m: &mut [u32], l: Layout, f: usize, mark: usize, n: usize)
+    requires { ⌜ SoundStore l (now m) ⌝ }
+    requires { ⌜ Member (famOf f) ⌝ }
+    requires { ⌜ n < nnOf l (famOf f) ⌝ }
+    requires { ⌜ CanLinkBy (stateOf l (now m)) (famOf f) mark n ⌝ }
+    ensures { λ _. ⌜ LinkedBy l (famOf f) mark n 1 (now (m .entry)) (now (m .exit)) ⌝ }
+{
+    enter_after(m, l, f, mark, n);
+}
+
+// The operation or block `n` is put right before the node `mark`.
+pub fn link_before(m: &mut [u32], l: Layout, f: usize, mark: usize, n: usize)
+    requires { ⌜ SoundStore l (now m) ⌝ }
+    requires { ⌜ Member (famOf f) ⌝ }
+    requires { ⌜ n < nnOf l (famOf f) ⌝ }
+    requires { ⌜ CanLinkBy (stateOf l (now m)) (famOf f) mark n ⌝ }
+    ensures { λ _. ⌜ LinkedBy l (famOf f) mark n 0 (now (m .entry)) (now (m .exit)) ⌝ }
+{
+    enter_before(m, l, f, mark, n);
+}
+
+// The operation or block `n` is taken out of its list of the family `f`.
+pub fn unlink(m: &mut [u32], l: Layout, f: usize, n: usize)
+    requires { ⌜ SoundStore l (now m) ⌝ }
+    requires { ⌜ Member (famOf f) ⌝ }
+    requires { ⌜ Stands (stateOf l (now m)) (nodeIn (famOf f), n) (famOf f) ⌝ }
+    ensures { λ _. ⌜ Unlinked l (famOf f) n (now (m .entry)) (now (m .exit)) ⌝ }
+{
+    leave(m, l, f, n);
+}
+
+// The region at the place `r` leaves its operation, whose last region takes the gap.
+fn swap_out(m: &mut [u32], l: Layout, r: usize)
+    requires { ⌜ SoundStore l (now m) ⌝ }
+    requires { ⌜ Live (stateOf l (now m)) (reg, r) ⌝ }
+    ensures { λ _. ⌜ SwappedOut l r (now (m .entry)) (now (m .exit)) ⌝ }
+{
+    let h = home_of(m, l, 3, r);
+    let z = last_of(m, l, 3, h - 1);
+    if z == r + 1 {
+        leave(m, l, 3, r);
+        return;
+    }
+    leave(m, l, 3, z - 1);
+    enter_before(m, l, 3, r, z - 1);
+    leave(m, l, 3, r);
+}
+
+// The region at the place `r` moves to the operation at `o`, last; the last region of the old one takes the gap.
+pub fn move_region(m: &mut [u32], l: Layout, r: usize, o: usize)
+    requires { ⌜ SoundStore l (now m) ⌝ }
+    requires { ⌜ CanMoveRegion (stateOf l (now m)) r o ⌝ }
+    ensures { λ _. ⌜ MovedRegion l r o (now (m .entry)) (now (m .exit)) ⌝ }
+{
+    swap_out(m, l, r);
+    enter_back(m, l, 3, o, r);
+}

@@ -1,0 +1,3 @@
+pub mod Laws
+pub mod Canon
+pub mod Meets

@@ -1,0 +1,54 @@
+use Prim.Native.Nat.{ℕ, _-_, _<_}
+use borrow.Author.Count.{below-more}
+use Rattle.table.proofs.Laws.{says-no, says-yes}
+use Rattle.sound_parts.specs.Tests.{BlankAt}
+use borrow.Author.Needs.{needs}
+use native.Mathlib.Omega.{arith}
+use Rattle.sound_parts.proofs.check_blank.Statement.{statement}
+use Rattle.sound_parts.proofs.check_blank.Tie as tie
+use Rattle.sound_parts.proofs.check_blank.Reads as reads
+use Rattle.sound_parts.proofs.check_blank.Lts as lts
+use Rattle.sound_parts.proofs.blank_at.Reads as blank-at-reads
+
+abbrev Inv-loop : tie.InvT-loop
+Inv-loop t n s p₀ p = (x : ℕ) → x < p → BlankAt n t s x
+
+abbrev μ-loop : tie.MeasureT-loop
+μ-loop t n s p₀ p = n - p
+
+loop-holds : tie.Need-loop-holds Inv-loop μ-loop
+loop-holds c = λ x l. absurd (omega arith)
+
+blank-at-requires : tie.Need-blank-at-requires Inv-loop μ-loop
+blank-at-requires c κs = search needs
+
+returns : tie.Need-returns Inv-loop μ-loop
+returns c = let a = c .before .before .before .before .before .before .args in let y = c .before .before .before .loop .p in
+    λ D. says-no (c .before .blank-at .result) (BlankAt (a .n) (a .t .now) (a .s .now) y) (c .if1 .taken) (c .before .blank-at .ensures) (D y (omega arith))
+
+add-p : tie.Need-add-p Inv-loop μ-loop
+add-p c = search needs
+
+loop-less : tie.Need-loop-less Inv-loop μ-loop
+loop-less c = search needs
+
+loop-again : tie.Need-loop-again Inv-loop μ-loop
+loop-again c = let a = c .before .before .before .before .before .before .args in let y = c .before .before .before .loop .p in
+    below-more (λ x. BlankAt (a .n) (a .t .now) (a .s .now) x) y (c .before .before .before .loop .inv) (says-yes (c .before .blank-at .result) (BlankAt (a .n) (a .t .now) (a .s .now) y) (c .if1 .left) (c .before .blank-at .ensures))
+
+returns-2 : tie.Need-returns-2 Inv-loop μ-loop
+returns-2 c = λ x l. c .before .loop .inv x (omega arith)
+
+pub check-blank-spec : {M : Type 1} → statement M
+check-blank-spec =
+    tie.close
+    (tie.spec
+    Inv-loop
+    μ-loop
+    loop-holds
+    blank-at-requires
+    returns
+    add-p
+    loop-less
+    loop-again
+    returns-2)

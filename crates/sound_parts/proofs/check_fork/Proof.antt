@@ -1,0 +1,54 @@
+use Prim.Native.Nat.{ℕ, _-_, _<_}
+use borrow.Author.Count.{below-more}
+use Rattle.table.proofs.Laws.{says-no, says-yes}
+use Rattle.sound_parts.specs.Tests.{ForkAt}
+use borrow.Author.Needs.{needs}
+use native.Mathlib.Omega.{arith}
+use Rattle.sound_parts.proofs.check_fork.Statement.{statement}
+use Rattle.sound_parts.proofs.check_fork.Tie as tie
+use Rattle.sound_parts.proofs.check_fork.Reads as reads
+use Rattle.sound_parts.proofs.check_fork.Lts as lts
+use Rattle.sound_parts.proofs.fork_at.Reads as fork-at-reads
+
+abbrev Inv-loop : tie.InvT-loop
+Inv-loop s na nb nn tn ta tb q₀ q = (x : ℕ) → x < q → ForkAt na nb nn s tn ta tb x
+
+abbrev μ-loop : tie.MeasureT-loop
+μ-loop s na nb nn tn ta tb q₀ q = nn - q
+
+loop-holds : tie.Need-loop-holds Inv-loop μ-loop
+loop-holds c = λ x l. absurd (omega arith)
+
+fork-at-requires : tie.Need-fork-at-requires Inv-loop μ-loop
+fork-at-requires c κs = search needs
+
+returns : tie.Need-returns Inv-loop μ-loop
+returns c = let a = c .before .before .before .before .before .before .before .before .args in let y = c .before .before .before .loop .q in
+    λ D. says-no (c .before .fork-at .result) (ForkAt (a .na) (a .nb) (a .nn) (a .s .now) (a .tn .now) (a .ta .now) (a .tb .now) y) (c .if1 .taken) (c .before .fork-at .ensures) (D y (omega arith))
+
+add-q : tie.Need-add-q Inv-loop μ-loop
+add-q c = search needs
+
+loop-less : tie.Need-loop-less Inv-loop μ-loop
+loop-less c = search needs
+
+loop-again : tie.Need-loop-again Inv-loop μ-loop
+loop-again c = let a = c .before .before .before .before .before .before .before .before .args in let y = c .before .before .before .loop .q in
+    below-more (λ x. ForkAt (a .na) (a .nb) (a .nn) (a .s .now) (a .tn .now) (a .ta .now) (a .tb .now) x) y (c .before .before .before .loop .inv) (says-yes (c .before .fork-at .result) (ForkAt (a .na) (a .nb) (a .nn) (a .s .now) (a .tn .now) (a .ta .now) (a .tb .now) y) (c .if1 .left) (c .before .fork-at .ensures))
+
+returns-2 : tie.Need-returns-2 Inv-loop μ-loop
+returns-2 c = λ x l. c .before .loop .inv x (omega arith)
+
+pub check-fork-spec : {M : Type 1} → statement M
+check-fork-spec =
+    tie.close
+    (tie.spec
+    Inv-loop
+    μ-loop
+    loop-holds
+    fork-at-requires
+    returns
+    add-q
+    loop-less
+    loop-again
+    returns-2)

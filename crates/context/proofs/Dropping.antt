@@ -1,5 +1,5 @@
 -- The uses of a list end one after another: a turn of the loop. Assumes nothing.
-use mathlib.Core.Path.{_≡_, refl, sym, ap, _∙_}
+use mathlib.Core.Path.{_≡_, refl, sym, ap, ap₂, _∙_}
 use mathlib.Core.List.{List, [], _∷_, map}
 use Prim.Native.Nat.{ℕ, zero, suc, _+_, _-_, _*_, _≤_, _<_}
 use native.Mathlib.Numerals.{add-one}
@@ -12,7 +12,10 @@ use Rattle.places.specs.Parts.{rowsOf}
 use Rattle.places.specs.Store.{op, operands, successors, Limited, usg, slots, Thing, Con, State, Live, Sound, UseHeld, fam}
 use Rattle.places.specs.View.{num, namedC, view}
 use Rattle.places.specs.Edits.{endUse, nDrop}
-use Rattle.places.proofs.Turn.{P₁, live, held, list₁, left}
+use Rattle.places.proofs.Turn.{P₁, x-is, live, held, list₁, left}
+use Rattle.places.specs.Walk.{cutAll}
+use Rattle.places.proofs.Cut.{cut-append, cut-nothing}
+use Rattle.places.proofs.Cuts.{endUse-cut}
 use Rattle.context.specs.declared.Layout.{Layout}
 use Rattle.context.specs.Layout.{ncOf}
 use Rattle.context.specs.Memory.{con, stateOf, SoundStore, headCode, FirstIs}
@@ -49,6 +52,12 @@ module _ {l : Layout} {m₀ m : List ℕ} (s k n : ℕ) (D : Dropping l s m₀ m
             record {
               sound = E .sound;
               rest = E .rest ∙ D .rest;
+              state =
+                  ap₂ {C = State} (λ (ys : List Thing) (Q : State). cutAll ys Q) short (q ∙ endUse-cut (D .sound .sound) (x .1) (live (D .sound .sound) c in-slots x xs e) H)
+                  ∙ cut-append ((usg, x .1) ∷ []) xs (stateOf l m)
+                  ∙ ap (λ (y : Thing). cutAll (y ∷ xs) (stateOf l m)) (sym (x-is (D .sound .sound) c in-slots x xs e))
+                  ∙ ap (λ (ys : List Thing). cutAll ys (stateOf l m)) (sym e)
+                  ∙ D .state;
               first = F .is;
               left = ap (λ (Q : State). nDrop (namedC Q c) (map (num Q) (Q .list (c .1) (c .0))) (view Q)) q ∙ left (D .sound .sound) c in-slots x xs e ∙ D .left;
               counted = omega (arith, D .counted, ap length short, ap length e);
@@ -61,11 +70,11 @@ module _ {l : Layout} {m₀ m : List ℕ} (s k n : ℕ) (D : Dropping l s m₀ m
   all h = go (slotList l s m) refl
     where
       go : (xs : List Thing) → slotList l s m ≡ xs → DroppedAll l s m₀ m n
-      go [] e = record { sound = D .sound; rest = D .rest; empty = e; view = rw e at (D .left); counted = omega (arith, D .counted, ap length e) }
+      go [] e = record { sound = D .sound; rest = D .rest; state = sym (cut-nothing (stateOf l m)) ∙ rw e at (D .state); empty = e; view = rw e at (D .left); counted = omega (arith, D .counted, ap length e) }
       go (x ∷ xs) e = absurd (omega (arith, h, D .first ∙ ap headCode e))
 
 pub begun : {l : Layout} {m : List ℕ} (s k : ℕ) → SoundStore l m → FirstIs l slots s m k → Dropping l s m m k 0
-begun s k S F = record { sound = S; rest = refl; first = F .is; left = refl; counted = omega arith }
+begun s k S F = record { sound = S; rest = refl; state = refl; first = F .is; left = refl; counted = omega arith }
 
 limited : (v o s : ℕ) → Limited (rowsOf v o .con slots s .0)
 unfolding rowsOf

@@ -82,6 +82,7 @@ droppedTo l s m = nDrop (namedC (stateOf l m) (con l slots s)) (map (num (stateO
 pub record Dropping (l : Layout) (s : ℕ) (m m′ : List ℕ) (k n : ℕ) : Type 0 where
   pub sound : SoundStore l m′
   pub rest : part l m′ 14 ≡ part l m 14
+  pub state : cutAll (slotList l s m′) (stateOf l m′) ≡ cutAll (slotList l s m) (stateOf l m)
   pub first : k ≡ headCode (slotList l s m′)
   pub left : droppedTo l s m′ ≡ droppedTo l s m
   pub counted : n + length (slotList l s m′) ≡ length (slotList l s m)
@@ -89,6 +90,7 @@ pub record Dropping (l : Layout) (s : ℕ) (m m′ : List ℕ) (k n : ℕ) : Typ
 pub record DroppedAll (l : Layout) (s : ℕ) (m m′ : List ℕ) (n : ℕ) : Type 0 where
   pub sound : SoundStore l m′
   pub rest : part l m′ 14 ≡ part l m 14
+  pub state : stateOf l m′ ≡ cutAll (slotList l s m) (stateOf l m)
   pub empty : slotList l s m′ ≡ []
   pub view : view (stateOf l m′) ≡ droppedTo l s m
   pub counted : n ≡ length (slotList l s m)

@@ -61,3 +61,7 @@ pub mod VerdictWalk
 pub mod Top
 pub mod TopRefusals
 pub mod Meaning
+pub mod RuleValues
+pub mod RuleValueCodes
+pub mod RuleBirths
+pub mod RuleGrown

@@ -15,6 +15,7 @@ use Rattle.places.specs.View.{Rec, Names, num, recOf, view, amendIn}
 use Rattle.places.specs.Plain.{tabled}
 use Rattle.places.specs.Hist.{capsOf, hist, ordersOf, ruleState, meaning}
 use Rattle.places.specs.Walk.{pick, sgn, sift}
+use Rattle.places.specs.Accepts.{Accepts}
 use Rattle.edit.specs.Record.{Edit}
 use Rattle.rules.specs.Table.{keep-keys, number, change}
 use Rattle.rules.specs.History.{Five, History, remember, live-operation, live-value}
@@ -37,19 +38,11 @@ module _ {Q : State} (S : Sound Q) (n : ℕ) where
       ∙ ap (map (λ p. (num Q (k, p), f (recOf Q (k, p))))) (sift-all ℕ-discrete (λ p. 0) (Q .tab k .order) (λ _ _. refl))
       ∙ sym (tabled-view Q k f)
 
-  flags-kept : {A : Type 0} (f : Rec → A) → keep-keys (live-operation (hist n (view Q))) (tabled f (view Q .things op)) ≡ tabled f (view Q .things op)
+  pub flags-kept : {A : Type 0} (f : Rec → A) → keep-keys (live-operation (hist n (view Q))) (tabled f (view Q .things op)) ≡ tabled f (view Q .things op)
   flags-kept f = kept op f (live-operation (hist n (view Q))) (λ p l. operation-live S n p (num Q (op, p)) l refl)
 
-  types-kept : {A : Type 0} (f : Rec → A) → keep-keys (live-value (hist n (view Q))) (tabled f (view Q .things val)) ≡ tabled f (view Q .things val)
+  pub types-kept : {A : Type 0} (f : Rec → A) → keep-keys (live-value (hist n (view Q))) (tabled f (view Q .things val)) ≡ tabled f (view Q .things val)
   types-kept f = kept val f (live-value (hist n (view Q))) (λ p l. value-live S n p (num Q (val, p)) l refl)
-
--- what the tables have to be
-pub record Accepts (P Q : State) (e : Edit) (n k : ℕ) : Type 0 where
-  pub history : hist k (view Q) ≡ remember e (hist n (view P))
-  pub flags : tabled (λ r. r .tag) (view Q .things op) ≡ tabled (λ r. r .tag) (view P .things op) ++ number (P .tab op .next) (new-flags e)
-  pub types : tabled (λ r. r .tag) (view Q .things val) ≡ tabled (λ r. r .tag) (view P .things val) ++ number (P .tab val .next) (new-types e)
-  pub orders : ordersOf (view Q) ≡ reorder e (hist n (view P)) (hist k (view Q)) (ordersOf (view P))
-  pub caps : (j : Kind) → Q .tab j .cap ≡ P .tab j .cap
 
 pub accept-is : {P Q : State} → Sound Q → (e : Edit) (n k : ℕ) → Accepts P Q e n k → ruleState k Q ≡ accept e (ruleState n P)
 unfolding ruleState accept hist view

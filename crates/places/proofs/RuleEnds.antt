@@ -32,7 +32,7 @@ use Rattle.places.proofs.RuleUses.{slot-entry, slot-change}
 
 -- ---- list laws
 
-remove-is : (i : ℕ) (l : List ℕ) → removeAt i l ≡ remove-at i l
+pub remove-is : (i : ℕ) (l : List ℕ) → removeAt i l ≡ remove-at i l
 unfolding remove-at
 remove-is zero [] = refl
 remove-is (suc i) [] = refl

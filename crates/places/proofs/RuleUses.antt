@@ -118,20 +118,20 @@ module _ (N : Names) (sl : Slot) (n i d : ℕ) (new : (f : Rec → Rec) → amen
       one-more a = omega arith
 
   -- where f puts the new use as insertAt does into the list that is there
-  born-history : (e : ℕ) (f : ℕ → List ℕ → List ℕ) → change n (change-slot sl (insertAt i u)) (tabled opOf (N .things op)) ≡ change n (change-slot sl (f u)) (tabled opOf (N .things op))
+  pub born-history : (e : ℕ) (f : ℕ → List ℕ → List ℕ) → change n (change-slot sl (insertAt i u)) (tabled opOf (N .things op)) ≡ change n (change-slot sl (f u)) (tabled opOf (N .things op))
       → hist e B ≡ bear (plus (hist e N .born) (oneOf usg)) (add-use sl n d f (hist e N))
   unfolding hist bear add-use nHold nEnter amend nBirth upd
   born-history e f h = λ k. record { operations = (born-operations ∙ h) k; blocks = tabled blockOf (N .things blk); uses = born-uses k; born = born-born k; ended = e }
 
 -- ---- list laws
 
-insert-is : (i a : ℕ) (l : List ℕ) → insertAt i a l ≡ insert-at i a l
+pub insert-is : (i a : ℕ) (l : List ℕ) → insertAt i a l ≡ insert-at i a l
 unfolding insert-at
 insert-is zero a l = refl
 insert-is (suc i) a [] = refl
 insert-is (suc i) a (x ∷ l) = ap {B = List ℕ} (λ r. x ∷ r) (insert-is i a l)
 
-insert-last : (a : ℕ) (l : List ℕ) → insertAt (length l) a l ≡ l ++ a ∷ []
+pub insert-last : (a : ℕ) (l : List ℕ) → insertAt (length l) a l ≡ l ++ a ∷ []
 insert-last a [] = refl
 insert-last a (x ∷ l) = ap {B = List ℕ} (λ r. x ∷ r) (insert-last a l)
 

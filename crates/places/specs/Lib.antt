@@ -10,3 +10,4 @@ pub mod Verdict
 pub mod Model
 pub mod Roles
 pub mod Members
+pub mod Accepts

@@ -1,0 +1,5 @@
+pub mod Rooms
+pub mod Listed
+pub mod Blocks
+pub mod Names
+pub mod Operations

@@ -1,0 +1,7 @@
+pub mod Climb
+pub mod Stepping
+pub mod Sorts
+pub mod Testing
+pub mod Performing
+pub mod Gap
+pub mod Moving

@@ -1,0 +1,211 @@
+-- An edit of a list was refused, or carried out: the whole contract. Assumes nothing.
+use mathlib.Core.Path.{_≡_, refl, sym, ap, ap₂, _∙_, subst}
+use mathlib.Core.Logic.{_≢_}
+use mathlib.Core.List.{List, [], _∷_, _++_, map}
+use mathlib.Core.Option.{Option, none, some}
+use native.Mathlib.Omega.{arith}
+use Prim.Native.Nat.{ℕ, zero, suc, _+_, _-_, _<_, _≤_}
+use lib.ListN.{length, length-map, getD}
+use Rattle.seqs.specs.Seqs.{count}
+use Rattle.seqs.specs.Split.{split}
+use Rattle.linked_list.proofs.View.{row-short}
+use Rattle.linked_list.specs.Links.{lists}
+use Rattle.edit.specs.declared.Answer.{Answer}
+use Rattle.edit.specs.declared.Answer.the-variants.{Accepted, Refused}
+use Rattle.edit.specs.Answer.{Reply, clean, refuse, found, numbers-of}
+use Rattle.edit.specs.Record.{Member, operation, block, Edit, link-after, link-before, link-front, link-back, unlink}
+use Rattle.rules.specs.History.{History}
+use Rattle.rules.specs.State.{accept}
+use Rattle.rules.specs.Step.{answer, perform}
+use Rattle.rules.specs.Refusal.{member-named, named, missing, refusal-of}
+use Rattle.places.specs.Store.{Kind, op, blk, reg, Fam, fam, nodeOf, Limited, Thing, Thing-dec, Con, State, Live, Sound, enter, leave}
+use Rattle.places.specs.View.{num}
+use Rattle.places.specs.Hist.{meaning}
+use Rattle.places.specs.Parts.{nodeIn, Parts}
+use Rattle.places.specs.Members.{roleOf, memberAt, containerAt, listAt, homeOf, heldCode, position}
+use Rattle.places.proofs.Steps.{CanEnter, once}
+use Rattle.places.specs.Roles.{Unnamed}
+use Rattle.places.proofs.RuleRefusals as R
+use Rattle.places.proofs.RuleLinks.{split-at, linked-sound, unlinked-sound, front-accept, back-accept, after-accept, before-accept, unlink-accept}
+use Rattle.places.proofs.RuleLinkTests.{container-live, unlink-code}
+use Rattle.context.specs.declared.Layout.{Layout}
+use Rattle.context.specs.Layout.{ncOf, nnOf, famOf, famPart, sizes}
+use Rattle.context.specs.Memory.{part, partsOf, con, stateOf, Well, SoundStore, HomeIs, Entered, Left}
+use Rattle.context.specs.Reading.{listOf, EnteredBy}
+use Rattle.context.specs.Performed.{abs, Performed}
+use Rattle.context.proofs.Families.{list-at}
+use Rattle.links.specs.Tests.{memberOf, missingCode, MayEnter, Refuses, Entering, Beside}
+use Rattle.context.specs.Memory.{Stands}
+use Rattle.links.specs.Tests.{EnterTested, BesideTested}
+use Rattle.links.specs.declared.Tested.{Tested}
+use Rattle.links.specs.declared.Tested.the-variants.{No, Yes}
+use Rattle.links.proofs.Sorts.{by-sort, list-is, node-is, member<, container<, home-free, home-at, own-free, stands-at}
+use Rattle.links.proofs.Testing.{linked-15, linked-none, only-gone, only-there, is-there, not-there, missing-pos}
+
+module _ {l : Layout} {m : List ℕ} (S : SoundStore l m) (e : Edit) where
+  pub refused : (t : ℕ) → 0 < t → refusal-of (abs l m) e ≡ t → Performed l e m m (Refused t)
+  unfolding numbers-of
+  refused t h r =
+      let z : t ≡ suc (t - 1) = omega (arith, h) in
+      let p : perform (abs l m) e ≡ (refuse (suc (t - 1)), abs l m) = R.refused (abs l m) e (t - 1) (r ∙ z) in
+      record {
+        sound = S;
+        reply = ap refuse z ∙ ap (λ (q : Reply × _). q .0) (sym p);
+        state = ap (λ (q : Reply × _). q .1) (sym p);
+        kept = λ d. refl;
+        rest = refl;
+      }
+
+  pub carried-out : {m′ : List ℕ} → SoundStore l m′ → refusal-of (abs l m) e ≡ 0 → ((k : History) → answer e (abs l m) k ≡ clean) → abs l m′ ≡ accept e (abs l m) → part l m′ 14 ≡ part l m 14 → Performed l e m m′ (Accepted 0 0)
+  unfolding numbers-of found clean
+  carried-out S′ r a s rest =
+      let p : perform (abs l m) e ≡ (answer e (abs l m) (accept e (abs l m) .history), accept e (abs l m)) = R.accepted (abs l m) e r in
+      record {
+        sound = S′;
+        reply = sym (ap (λ (q : Reply × _). q .0) p ∙ a (accept e (abs l m) .history));
+        state = s ∙ ap (λ (q : Reply × _). q .1) (sym p);
+        kept = λ d. absurd (d r);
+        rest = rest;
+      }
+
+-- a list has no more nodes than there are
+pub list-short : {l : Layout} {m : List ℕ} → Well l m → (f : Fam) (k : ℕ) → k < ncOf l f → length (listOf l m (con l f k)) ≤ nnOf l f
+unfolding partsOf
+list-short {l} {m} W f k h =
+    omega (arith, ap length (list-at (l .values) (l .ops) (partsOf l (split (sizes l) m)) f k 0), length-map {B = Thing} (getD (lists (ncOf l f) (nnOf l f) (part l m (famPart f))) k []) (λ (j : ℕ). (nodeOf (con l f k .0), j)), row-short (W .families f .row k h))
+
+can-enter : {P : State} {w : Member} {x n c : ℕ} → MayEnter P w x n c → CanEnter P (listAt w c) (memberAt w n)
+can-enter {P} {w} {x} {n} {c} M = record { free = M .free; node = refl; holder = refl; live = M .live; home = M .home; limit = λ q. absurd (no-limit w q); clear = λ e. M .clear }
+  where
+    no-limit : (v : Member) → Limited (roleOf v) → ⊥
+    no-limit operation q = elim q [ ]
+    no-limit block q = elim q [ ]
+
+module _ {l : Layout} {m : List ℕ} (S : SoundStore l m) (w : ℕ) (w≤ : w ≤ 1) where
+  abbrev P : State
+  P = stateOf l m
+
+  abbrev W : Member
+  W = memberOf w
+
+  -- the store after a member came to stand at index i of the container at c
+  module _ (m′ : List ℕ) (x n c i : ℕ) (M : MayEnter P W x n c) (E : stateOf l m′ ≡ enter (listAt W c) i (memberAt W n) P) where
+    now-sound : Well l m′ → SoundStore l m′
+    now-sound Y = record { well = Y; sound = subst (λ (Q : State). Sound Q) (sym E) (linked-sound (S .sound) W c n i (can-enter M)) }
+
+    now-abs : (e : Edit) → meaning (enter (listAt W c) i (memberAt W n) P) ≡ accept e (meaning P) → abs l m′ ≡ accept e (abs l m)
+    unfolding abs
+    now-abs e a = ap meaning E ∙ a
+
+  state-of : {m′ : List ℕ} (n c i : ℕ) → Entered l (famOf (4 + w)) c i n m m′ → stateOf l m′ ≡ enter (listAt W c) i (memberAt W n) P
+  state-of n c i E = E .state ∙ ap₂ (λ (d : Con) (k : Kind). enter d i (k, n) P) (list-is w w≤ l c) (node-is w w≤)
+
+  module _ (x y n c : ℕ) (T : Entering l W x y n c m) where
+    pub front-done : {m′ : List ℕ} → Entered l (famOf (4 + w)) c 0 n m m′ → Performed l (link-front W x y) m m′ (Accepted 0 0)
+    unfolding answer
+    front-done {m′} E =
+        carried-out S (link-front W x y) (now-sound m′ x n c 0 (T .may) (state-of n c 0 E) (E .well)) (T .none .first) (λ k. refl)
+        (now-abs m′ x n c 0 (T .may) (state-of n c 0 E) (link-front W x y) (front-accept (S .sound) W c n (can-enter (T .may)) ∙ ap₂ (λ (a b : ℕ). accept (link-front W a b) (meaning P)) (T .may .named) (T .container)))
+        (E .rest)
+
+    pub back-done : {m′ : List ℕ} → Entered l (famOf (4 + w)) c (nnOf l (famOf (4 + w))) n m m′ → Performed l (link-back W x y) m m′ (Accepted 0 0)
+    unfolding answer
+    back-done {m′} E =
+        let i : ℕ = nnOf l (famOf (4 + w)) in
+        carried-out S (link-back W x y) (now-sound m′ x n c i (T .may) (state-of n c i E) (E .well)) (T .none .second) (λ k. refl)
+        (now-abs m′ x n c i (T .may) (state-of n c i E) (link-back W x y)
+        (back-accept (S .sound) W c n i (can-enter (T .may)) (subst (λ (d : Con). length (P .list (d .1) (d .0)) ≤ i) (list-is w w≤ l c) (list-short (S .well) (famOf (4 + w)) c (container< w w≤ l S c (T .may .home))))
+        ∙ ap₂ (λ (a b : ℕ). accept (link-back W a b) (meaning P)) (T .may .named) (T .container)))
+        (E .rest)
+
+  module _ (x y n k : ℕ) (T : Beside l W x y n k m) where
+    abbrev c : ℕ
+    c = T .container
+
+    abbrev rows : List Thing
+    rows = P .list (containerAt W c) (roleOf W)
+
+    cut : (a : List Thing) × (b : List Thing) × (rows ≡ a ++ memberAt W k ∷ b) × (length a ≡ position Thing-dec (memberAt W k) rows)
+    cut = split-at Thing-dec (memberAt W k) rows (omega (arith, once (S .sound .linked) (memberAt W k) (fam (roleOf W)) (listAt W c) (T .there)))
+
+    beside-state : {m′ : List ℕ} (d : ℕ) → EnteredBy l (famOf (4 + w)) k n d m m′ → stateOf l m′ ≡ enter (listAt W c) (position Thing-dec (memberAt W k) rows + d) (memberAt W n) P
+    unfolding cut
+    beside-state {m′} d E =
+        by-sort (λ v. (stateOf l m .own (nodeIn (famOf (4 + v)), k) (famOf (4 + v)) ≡ some (listAt W c) → listOf l m (listAt W c) ≡ cut .0 ++ (nodeIn (famOf (4 + v)), k) ∷ cut .1 → stateOf l m′ ≡ enter (listAt W c) (length (cut .0) + d) (nodeIn (famOf (4 + v)), n) P)
+        → homeOf P (memberOf v) k ≡ some (listAt W c) → rows ≡ cut .0 ++ memberAt (memberOf v) k ∷ cut .1 → stateOf l m′ ≡ enter (listAt W c) (length (cut .0) + d) (memberAt (memberOf v) n) P) w w≤ (λ f a b. f a b) (λ f a b. f a b)
+        (λ a b. E .state (listAt W c) a (cut .0) (cut .1) b) (T .there) (cut .2)
+        ∙ ap (λ (i : ℕ). enter (listAt W c) (i + d) (memberAt W n) P) (cut .3)
+
+    pub after-done : {m′ : List ℕ} → EnteredBy l (famOf (4 + w)) k n 1 m m′ → Performed l (link-after W x y) m m′ (Accepted 0 0)
+    unfolding answer
+    after-done {m′} E =
+        let i : ℕ = position Thing-dec (memberAt W k) rows in
+        let z : i + 1 ≡ suc i = omega arith in
+        let s : stateOf l m′ ≡ enter (listAt W c) (suc i) (memberAt W n) P = beside-state 1 E ∙ ap (λ (j : ℕ). enter (listAt W c) j (memberAt W n) P) z in
+        carried-out S (link-after W x y) (now-sound m′ x n c (suc i) (T .may) s (E .well)) (T .none .first) (λ k. refl)
+        (now-abs m′ x n c (suc i) (T .may) s (link-after W x y) (after-accept (S .sound) W c n k (T .there) (can-enter (T .may)) ∙ ap₂ (λ (a b : ℕ). accept (link-after W a b) (meaning P)) (T .may .named) (T .mark)))
+        (E .rest)
+
+    pub before-done : {m′ : List ℕ} → EnteredBy l (famOf (4 + w)) k n 0 m m′ → Performed l (link-before W x y) m m′ (Accepted 0 0)
+    unfolding answer
+    before-done {m′} E =
+        let i : ℕ = position Thing-dec (memberAt W k) rows in
+        let z : i + 0 ≡ i = omega arith in
+        let s : stateOf l m′ ≡ enter (listAt W c) i (memberAt W n) P = beside-state 0 E ∙ ap (λ (j : ℕ). enter (listAt W c) j (memberAt W n) P) z in
+        carried-out S (link-before W x y) (now-sound m′ x n c i (T .may) s (E .well)) (T .none .second) (λ k. refl)
+        (now-abs m′ x n c i (T .may) s (link-before W x y) (before-accept (S .sound) W c n k (T .there) (can-enter (T .may)) ∙ ap₂ (λ (a b : ℕ). accept (link-before W a b) (meaning P)) (T .may .named) (T .mark)))
+        (E .rest)
+
+  -- ---- unlink
+
+  module _ (x : ℕ) where
+    pub unlink-gone : Unnamed P (nodeOf (roleOf W)) x → refusal-of (abs l m) (unlink W x) ≡ missingCode w
+    unfolding abs named
+    unlink-gone u = only-gone (meaning P) (unlink W x) (member-named W x) refl (missingCode w - 1) (not-there (S .sound) w x w≤ u ∙ missing-pos w) ∙ sym (missing-pos w)
+
+    module _ (n h : ℕ) (at : Live P (memberAt W n) × (num P (memberAt W n) ≡ x)) (H : HomeIs l (famOf (4 + w)) n m h) where
+      unlink-tests : refusal-of (abs l m) (unlink W x) ≡ heldCode (homeOf P W n) 0 16
+      unfolding abs named
+      unlink-tests = only-there (meaning P) (unlink W x) (member-named W x) refl (is-there (S .sound) W n x (at .0) (at .1)) ∙ unlink-code (S .sound) W n x (at .0) (at .1)
+
+      pub unlink-16 : h ≡ 0 → refusal-of (abs l m) (unlink W x) ≡ 16
+      unlink-16 z = unlink-tests ∙ linked-none w w≤ n h H 0 16 z
+
+      pub unlink-done : {m′ : List ℕ} → h ≢ 0 → Left l (famOf (4 + w)) n m m′ → Performed l (unlink W x) m m′ (Accepted 0 0)
+      unfolding answer abs
+      unlink-done {m′} d L =
+          let c : ℕ = h - 1 in
+          let there : homeOf P W n ≡ some (listAt W c) = home-at w w≤ l n h H d in
+          let s : stateOf l m′ ≡ leave (listAt W c) (memberAt W n) P =
+          by-sort (λ v. (stateOf l m .own (nodeIn (famOf (4 + v)), n) (famOf (4 + v)) ≡ some (listAt W c) → stateOf l m′ ≡ leave (listAt W c) (nodeIn (famOf (4 + v)), n) P) → homeOf P (memberOf v) n ≡ some (listAt W c) → stateOf l m′ ≡ leave (listAt W c) (memberAt (memberOf v) n) P) w w≤ (λ f a. f a) (λ f a. f a)
+          (λ a. L .state (listAt W c) a) there in
+          carried-out S (unlink W x) (record { well = L .well; sound = subst (λ (Q : State). Sound Q) (sym s) (unlinked-sound (S .sound) W c n there) }) (unlink-tests ∙ linked-15 w w≤ n h H 0 16 d) (λ k. refl)
+          (ap meaning s ∙ unlink-accept (S .sound) W c n there ∙ ap (λ (a : ℕ). accept (unlink W a) (meaning P)) (at .1))
+          (L .rest)
+
+-- ---- what the tests hand on
+
+module _ {l : Layout} {m : List ℕ} (S : SoundStore l m) (w : ℕ) (w≤ : w ≤ 1) (x y : ℕ) (t : Tested) where
+  module _ (T : EnterTested l (memberOf w) x y m t) where
+    pub enter-refused : (r : ℕ) → t ≡ No r → Performed l (link-front (memberOf w) x y) m m (Refused r) × Performed l (link-back (memberOf w) x y) m m (Refused r)
+    enter-refused r e = let q : (0 < r) × Refuses l (link-front (memberOf w) x y) (link-back (memberOf w) x y) m r = subst (λ (z : Tested). EnterTested l (memberOf w) x y m z) e T in
+        (refused S (link-front (memberOf w) x y) r (q .0) (q .1 .first), refused S (link-back (memberOf w) x y) r (q .0) (q .1 .second))
+
+    pub entering-at : (n c : ℕ) → t ≡ Yes n c → Entering l (memberOf w) x y n c m
+    entering-at n c e = subst (λ (z : Tested). EnterTested l (memberOf w) x y m z) e T
+
+    pub enter-asked : (n c : ℕ) → t ≡ Yes n c → Well l m × (((c < ncOf l (famOf (4 + w))) × (n < nnOf l (famOf (4 + w)))) × (stateOf l m .own (nodeIn (famOf (4 + w)), n) (famOf (4 + w)) ≡ none))
+    enter-asked n c e = let E : Entering l (memberOf w) x y n c m = entering-at n c e in
+        (S .well, ((container< w w≤ l S c (E .may .home), member< w w≤ l S n (E .may .live)), own-free w w≤ l m n (E .may .free)))
+
+  module _ (T : BesideTested l (memberOf w) x y m t) where
+    pub beside-refused : (r : ℕ) → t ≡ No r → Performed l (link-after (memberOf w) x y) m m (Refused r) × Performed l (link-before (memberOf w) x y) m m (Refused r)
+    beside-refused r e = let q : (0 < r) × Refuses l (link-after (memberOf w) x y) (link-before (memberOf w) x y) m r = subst (λ (z : Tested). BesideTested l (memberOf w) x y m z) e T in
+        (refused S (link-after (memberOf w) x y) r (q .0) (q .1 .first), refused S (link-before (memberOf w) x y) r (q .0) (q .1 .second))
+
+    pub beside-at : (n k : ℕ) → t ≡ Yes n k → Beside l (memberOf w) x y n k m
+    beside-at n k e = subst (λ (z : Tested). BesideTested l (memberOf w) x y m z) e T
+
+    pub beside-asked : (n k : ℕ) → t ≡ Yes n k → Well l m × (Stands (stateOf l m) (nodeIn (famOf (4 + w)), k) (famOf (4 + w)) × ((n < nnOf l (famOf (4 + w))) × (stateOf l m .own (nodeIn (famOf (4 + w)), n) (famOf (4 + w)) ≡ none)))
+    beside-asked n k e = let E : Beside l (memberOf w) x y n k m = beside-at n k e in
+        (S .well, (stands-at w w≤ l m k (listAt (memberOf w) (E .container)) (E .there), (member< w w≤ l S n (E .may .live), own-free w w≤ l m n (E .may .free))))

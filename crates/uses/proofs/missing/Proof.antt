@@ -1,0 +1,17 @@
+use Rattle.uses.proofs.Looking.{missing-value, missing-block}
+use borrow.Author.Needs.{needs}
+use Rattle.uses.proofs.missing.Statement.{statement}
+use Rattle.uses.proofs.missing.Tie as tie
+use Rattle.uses.proofs.missing.Reads as reads
+use Rattle.uses.proofs.missing.Lts as lts
+
+returns : tie.Need-returns
+returns c =
+    missing-value (c .before .args .sl) (c .if1 .taken)
+
+returns-2 : tie.Need-returns-2
+returns-2 c =
+    missing-block (c .before .args .sl) (c .if1 .left)
+
+pub missing-spec : {M : Type 1} → statement M
+missing-spec = tie.close (tie.spec returns returns-2)

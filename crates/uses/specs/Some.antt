@@ -1,0 +1,38 @@
+-- The listed uses of a definition that move to another, one after the other. Assumes nothing: these are definitions.
+use mathlib.Core.Path.{_≡_}
+use mathlib.Core.Logic.{_≢_}
+use mathlib.Core.List.{List, []}
+use mathlib.Core.Option.{some}
+use Prim.Native.Nat.{ℕ}
+use lib.ListN.{take, drop}
+use Rattle.edit.specs.Record.{operand, words, replace-some}
+use Rattle.rules.specs.State.{accept}
+use Rattle.places.specs.Store.{usg, useSets, Live}
+use Rattle.places.specs.View.{num}
+use Rattle.places.specs.Hist.{meaning}
+use Rattle.context.specs.declared.Layout.{Layout}
+use Rattle.context.specs.Memory.{part, con, stateOf, SoundStore}
+use Rattle.context.specs.Steps.{Moved}
+use Rattle.uses.specs.Look.{DefAt}
+
+-- the n numbers from the byte `at` on
+abbrev pub wordsAt : List ℕ → ℕ → ℕ → List ℕ
+wordsAt bytes at n = take n (words (drop at bytes))
+
+-- the use sets d and e are of two live values
+pub record Between (l : Layout) (m : List ℕ) (d e : ℕ) : Type 0 where
+  pub this : ℕ
+  pub other : ℕ
+  pub from : DefAt l m operand this d
+  pub to : DefAt l m operand other e
+
+-- the use with the number x moved from d to e, if it stood in d
+pub data PlacedOne (l : Layout) (d e x : ℕ) (m : List ℕ) : List ℕ → Type 0 where
+  moved : (u : ℕ) {m′ : List ℕ} → Live (stateOf l m) (usg, u) → num (stateOf l m) (usg, u) ≡ x → stateOf l m .own (usg, u) useSets ≡ some (con l useSets d) → Moved l u e m m′ → PlacedOne l d e x m m′
+  stayed : ((u : ℕ) → Live (stateOf l m) (usg, u) → num (stateOf l m) (usg, u) ≡ x → stateOf l m .own (usg, u) useSets ≢ some (con l useSets d)) → PlacedOne l d e x m m
+
+-- all of the list
+pub record PlacedAll (l : Layout) (d e : ℕ) (us m m′ : List ℕ) : Type 0 where
+  pub sound : SoundStore l m′
+  pub rest : part l m′ 14 ≡ part l m 14
+  pub state : (a b : ℕ) → DefAt l m operand a d → DefAt l m operand b e → meaning (stateOf l m′) ≡ accept (replace-some a b us) (meaning (stateOf l m))

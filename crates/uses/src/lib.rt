@@ -1,0 +1,316 @@
+// Edits on uses: push, insert, replace, remove and pop for operands and successors; the move of a use to another definition.
+// Ported from pliron 0.20.0 (src/operation.rs, src/value.rs), Apache-2.0.
+use bits::Found;
+use context::Layout;
+use edit::Answer;
+ghost use mathlib.Core.Path.{_≡_};
+ghost use Prim.Native.Nat.{ℕ, _+_, _-_, _*_, _≤_, _<_};
+ghost use lib.ListN.{length, getD, drop};
+ghost use Rattle.edit.specs.Record.{push-use, insert-use, replace-use, remove-use, pop-use, move-use, operand, words, replace-some};
+ghost use Rattle.places.specs.Store.{usg, slots, useSets, Live};
+ghost use Rattle.places.specs.Roles.{missingCode, defKind};
+ghost use Rattle.context.specs.Layout.{ncOf};
+ghost use Rattle.context.specs.Memory.{con, stateOf, Well, SoundStore};
+ghost use Rattle.context.specs.Reading.{listOf};
+ghost use Rattle.context.specs.Performed.{Performed};
+ghost use Rattle.uses.specs.Some.{wordsAt, Between, PlacedOne, PlacedAll};
+ghost use Rattle.uses.specs.Look.{slotBy, SlotFound, DefFound, GrowIs, DefNumberIs, Taken};
+
+// The list of operands (`sl` 0) or successors of the operation with this number.
+pub fn slot_of(m: &[u32], l: Layout, sl: usize, number: u32) -> Found
+    requires { ⌜ SoundStore l (now m) ⌝ }
+    ensures { λ r. ⌜ SlotFound l (now (m .entry)) (slotBy sl) number r ⌝ }
+{
+    let a = context::find(m, l, 0, number);
+    let Found::At(o) = a else {
+        return Found::Nothing;
+    };
+    if sl == 0 {
+        return Found::At(2 * o);
+    }
+    Found::At(2 * o + 1)
+}
+
+// The set of uses of the value (`sl` 0) or the block with this number.
+pub fn def_of(m: &[u32], l: Layout, sl: usize, number: u32) -> Found
+    requires { ⌜ SoundStore l (now m) ⌝ }
+    ensures { λ r. ⌜ DefFound l (now (m .entry)) (slotBy sl) number r ⌝ }
+{
+    if sl == 0 {
+        return context::find(m, l, 3, number);
+    }
+    let a = context::find(m, l, 1, number);
+    let Found::At(b) = a else {
+        return Found::Nothing;
+    };
+    Found::At(l.values + b)
+}
+
+// The refusal where no live definition has the number.
+pub fn missing(sl: usize) -> u32
+    ensures { λ r. ⌜ r ≡ missingCode (defKind (slotBy sl)) ⌝ }
+{
+    if sl == 0 {
+        return 10;
+    }
+    8
+}
+
+// Whether a list of `n` uses can grow at index `i`: 0, or the refusal.
+pub fn grow_code(m: &[u32], l: Layout, n: usize, i: usize) -> u32
+    requires { ⌜ Well l (now m) ⌝ }
+    ensures { λ r. ⌜ GrowIs l n i (now (m .entry)) r ⌝ }
+{
+    if n < i {
+        return 12;
+    }
+    if n >= 64 {
+        return 19;
+    }
+    context::room_for(m, l, 4)
+}
+
+// The number of the definition whose set of uses is `d`.
+pub fn def_number(m: &[u32], l: Layout, d: usize) -> u32
+    requires { ⌜ Well l (now m) ⌝ }
+    requires { ⌜ Live (stateOf l (now m)) (con l useSets d .1) ⌝ }
+    ensures { λ r. ⌜ DefNumberIs l d (now (m .entry)) r ⌝ }
+{
+    if d < l.values {
+        return context::number_of(m, l, 3, d);
+    }
+    context::number_of(m, l, 1, d - l.values)
+}
+
+// Kinds 3 and 8: a use of the definition is put last.
+pub fn push_use(m: &mut [u32], l: Layout, sl: usize, number: u32, def: u32) -> Answer
+    requires { ⌜ SoundStore l (now m) ⌝ }
+    ensures { λ r. ⌜ Performed l (push-use (slotBy sl) number def) (now (m .entry)) (now (m .exit)) r ⌝ }
+{
+    let a = slot_of(m, l, sl, number);
+    let Found::At(s) = a else {
+        return Answer::Refused(7);
+    };
+    let b = def_of(m, l, sl, def);
+    let Found::At(d) = b else {
+        return Answer::Refused(missing(sl));
+    };
+    let n = context::row_length(m, l, 0, s);
+    let c = grow_code(m, l, n, n);
+    if c != 0 {
+        return Answer::Refused(c);
+    }
+    context::birth_use(m, l, s, n, d);
+    Answer::Accepted(n as u32, 0)
+}
+
+// Kinds 4 and 9: a use of the definition is put at the index.
+pub fn insert_use(m: &mut [u32], l: Layout, sl: usize, number: u32, index: u32, def: u32) -> Answer
+    requires { ⌜ SoundStore l (now m) ⌝ }
+    ensures { λ r. ⌜ Performed l (insert-use (slotBy sl) number index def) (now (m .entry)) (now (m .exit)) r ⌝ }
+{
+    let a = slot_of(m, l, sl, number);
+    let Found::At(s) = a else {
+        return Answer::Refused(7);
+    };
+    let b = def_of(m, l, sl, def);
+    let Found::At(d) = b else {
+        return Answer::Refused(missing(sl));
+    };
+    let i = index as usize;
+    let n = context::row_length(m, l, 0, s);
+    let c = grow_code(m, l, n, i);
+    if c != 0 {
+        return Answer::Refused(c);
+    }
+    context::birth_use(m, l, s, i, d);
+    Answer::Accepted(0, 0)
+}
+
+// The use at index `i` of the list `s` of the slots ends: the number of its definition.
+pub fn take_use(m: &mut [u32], l: Layout, s: usize, i: usize) -> u32
+    requires { ⌜ SoundStore l (now m) ⌝ }
+    requires { ⌜ s < ncOf l slots ⌝ }
+    requires { ⌜ i < length (listOf l (now m) (con l slots s)) ⌝ }
+    ensures { λ r. ⌜ Taken l s i (now (m .entry)) (now (m .exit)) r ⌝ }
+{
+    let u = context::nth_of(m, l, 0, s, i);
+    let h = context::home_of(m, l, 1, u);
+    let n = def_number(m, l, h - 1);
+    context::end_use(m, l, u);
+    n
+}
+
+// Kinds 6 and 11: the use at the index is taken out.
+pub fn remove_use(m: &mut [u32], l: Layout, sl: usize, number: u32, index: u32) -> Answer
+    requires { ⌜ SoundStore l (now m) ⌝ }
+    ensures { λ r. ⌜ Performed l (remove-use (slotBy sl) number index) (now (m .entry)) (now (m .exit)) r ⌝ }
+{
+    let a = slot_of(m, l, sl, number);
+    let Found::At(s) = a else {
+        return Answer::Refused(7);
+    };
+    let i = index as usize;
+    let n = context::row_length(m, l, 0, s);
+    if n <= i {
+        return Answer::Refused(12);
+    }
+    let d = take_use(m, l, s, i);
+    Answer::Accepted(d, 0)
+}
+
+// Kinds 7 and 12: the last use is taken out.
+pub fn pop_use(m: &mut [u32], l: Layout, sl: usize, number: u32) -> Answer
+    requires { ⌜ SoundStore l (now m) ⌝ }
+    ensures { λ r. ⌜ Performed l (pop-use (slotBy sl) number) (now (m .entry)) (now (m .exit)) r ⌝ }
+{
+    let a = slot_of(m, l, sl, number);
+    let Found::At(s) = a else {
+        return Answer::Refused(7);
+    };
+    let n = context::row_length(m, l, 0, s);
+    if n == 0 {
+        return Answer::Refused(12);
+    }
+    let d = take_use(m, l, s, n - 1);
+    Answer::Accepted(d, 0)
+}
+
+// Kinds 32 and 33: the use moves from this definition to the other.
+pub fn move_use_to(
+    m: &mut [u32],
+    l: Layout,
+    sl: usize,
+    this: u32,
+    number: u32,
+    other: u32,
+) -> Answer
+    requires { ⌜ SoundStore l (now m) ⌝ }
+    ensures { λ r. ⌜ Performed l (move-use (slotBy sl) this number other) (now (m .entry)) (now (m .exit)) r ⌝ }
+{
+    let a = def_of(m, l, sl, this);
+    let Found::At(d) = a else {
+        return Answer::Refused(missing(sl));
+    };
+    let b = def_of(m, l, sl, other);
+    let Found::At(e) = b else {
+        return Answer::Refused(missing(sl));
+    };
+    if this == other {
+        return Answer::Accepted(0, 0);
+    }
+    let f = context::find(m, l, 4, number);
+    let Found::At(u) = f else {
+        return Answer::Refused(11);
+    };
+    let h = context::home_of(m, l, 1, u);
+    if h != d + 1 {
+        return Answer::Refused(11);
+    }
+    context::move_use(m, l, u, e);
+    Answer::Accepted(0, 0)
+}
+
+// Kinds 5 and 10: a new use of the definition takes the place of the one at the index.
+pub fn replace_use(m: &mut [u32], l: Layout, sl: usize, number: u32, index: u32, def: u32) -> Answer
+    requires { ⌜ SoundStore l (now m) ⌝ }
+    ensures { λ r. ⌜ Performed l (replace-use (slotBy sl) number index def) (now (m .entry)) (now (m .exit)) r ⌝ }
+{
+    let a = slot_of(m, l, sl, number);
+    let Found::At(s) = a else {
+        return Answer::Refused(7);
+    };
+    let b = def_of(m, l, sl, def);
+    let Found::At(d) = b else {
+        return Answer::Refused(missing(sl));
+    };
+    let i = index as usize;
+    let n = context::row_length(m, l, 0, s);
+    if n <= i {
+        return Answer::Refused(12);
+    }
+    let x = context::next_number(m, l, 4);
+    if x >= 4294967295 {
+        return Answer::Refused(21);
+    }
+    let u = context::nth_of(m, l, 0, s, i);
+    context::end_use(m, l, u);
+    context::birth_use(m, l, s, i, d);
+    Answer::Accepted(0, 0)
+}
+
+fn wide(x: u8) -> u32
+    ensures { λ r. ⌜ (r ≡ x) × (r < 256) ⌝ }
+{
+    x as u32
+}
+
+// Number `i` of those that stand from the byte `at` on.
+fn listed(bytes: &[u8], at: usize, i: usize) -> u32
+    requires { ⌜ at + 4 * i + 4 ≤ length (now bytes) ⌝ }
+    ensures { λ r. ⌜ r ≡ getD (words (drop at (now (bytes .entry)))) i 0 ⌝ }
+{
+    let p = at + 4 * i;
+    wide(bytes[p])
+        + 256 * wide(bytes[p + 1])
+        + 65536 * wide(bytes[p + 2])
+        + 16777216 * wide(bytes[p + 3])
+}
+
+// The use with this number moves from the set `d` to the set `e`, if it stands in `d`.
+pub fn place_one(m: &mut [u32], l: Layout, d: usize, e: usize, number: u32)
+    requires { ⌜ SoundStore l (now m) ⌝ }
+    requires { ⌜ Between l (now m) d e ⌝ }
+    ensures { λ _. ⌜ PlacedOne l d e number (now (m .entry)) (now (m .exit)) ⌝ }
+{
+    let f = context::find(m, l, 4, number);
+    let Found::At(u) = f else {
+        return;
+    };
+    let h = context::home_of(m, l, 1, u);
+    if h != d + 1 {
+        return;
+    }
+    context::move_use(m, l, u, e);
+}
+
+// The uses with the `n` numbers listed from the byte `at` on move from the set `d` to the set `e`.
+pub fn place_listed(m: &mut [u32], l: Layout, d: usize, e: usize, bytes: &[u8], at: usize, n: usize)
+    requires { ⌜ SoundStore l (now m) ⌝ }
+    requires { ⌜ Between l (now m) d e ⌝ }
+    requires { ⌜ at + 4 * n ≤ length (now bytes) ⌝ }
+    ensures { λ _. ⌜ PlacedAll l d e (wordsAt (now (bytes .entry)) at n) (now (m .entry)) (now (m .exit)) ⌝ }
+{
+    let mut i = 0;
+    while i < n {
+        let x = listed(bytes, at, i);
+        place_one(m, l, d, e, x);
+        i += 1;
+    }
+}
+
+// Kind 34: the listed uses of this value become uses of the other.
+pub fn replace_some(
+    m: &mut [u32],
+    l: Layout,
+    this: u32,
+    other: u32,
+    bytes: &[u8],
+    at: usize,
+    n: usize,
+) -> Answer
+    requires { ⌜ SoundStore l (now m) ⌝ }
+    requires { ⌜ at + 4 * n ≤ length (now bytes) ⌝ }
+    ensures { λ r. ⌜ Performed l (replace-some this other (wordsAt (now (bytes .entry)) at n)) (now (m .entry)) (now (m .exit)) r ⌝ }
+{
+    let a = def_of(m, l, 0, this);
+    let Found::At(d) = a else {
+        return Answer::Refused(10);
+    };
+    let b = def_of(m, l, 0, other);
+    let Found::At(e) = b else {
+        return Answer::Refused(10);
+    };
+    place_listed(m, l, d, e, bytes, at, n);
+    Answer::Accepted(0, 0)
+}

@@ -1,0 +1,4 @@
+pub mod Performing
+pub mod Looking
+pub mod Growing
+pub mod Taking

@@ -1,0 +1,10 @@
+pub mod Nested
+pub mod DropLaws
+pub mod DropWalk
+pub mod Asked
+pub mod OwnUses
+pub mod Cursor
+pub mod JudgeLaws
+pub mod Search
+pub mod VerifyLaws
+pub mod VerdictEdit

@@ -1,0 +1,105 @@
+-- The uses of one operation end: its operands, then its successors. Assumes nothing.
+use mathlib.Core.Path.{_≡_, refl, sym, ap, ap₂, _∙_, subst}
+use mathlib.Core.Logic.{_≢_, if-pos, if-neg, by-cases}
+use mathlib.Core.List.{List, [], _∷_, _++_}
+use mathlib.Core.Option.{Option, none, some}
+use native.Mathlib.Decide.{ℕ-discrete}
+use native.Mathlib.Omega.{arith}
+use Prim.Native.Nat.{ℕ, zero, suc, _+_, _-_, _*_, _/_, _%_, _<_, _≤_}
+use lib.ListN.{length}
+use Rattle.seqs.specs.Seqs.{tick, count, In}
+use Rattle.places.specs.Store.{Kind-dec, op, operands, successors, Limited, slots, Thing, Thing-dec, Con, State, Linked, Live, Sound, outer}
+use Rattle.places.specs.Parts.{rowsOf}
+use Rattle.places.specs.Walk.{sift, cutBy, cutAll, among, usesAt}
+use Rattle.seqs.proofs.Base.{tick-yes, tick-no, count-append}
+use Rattle.places.proofs.Cut.{sift-all, cut-append}
+use Rattle.places.proofs.Nest.{upTo}
+use Rattle.places.proofs.DropAll.{uses-at}
+use Rattle.places.proofs.DropTurn.{length-append}
+use Rattle.context.specs.declared.Layout.{Layout}
+use Rattle.context.specs.Layout.{ncOf}
+use Rattle.context.specs.Memory.{con, stateOf, SoundStore}
+use Rattle.context.specs.Steps.{slotList, DroppedAll}
+use Rattle.context.proofs.Places.{place<}
+use Rattle.walk.specs.declared.Walked.{Walked}
+use Rattle.walk.specs.Drop.{operations, CanDrop, Counted, OwnDropped}
+use Rattle.walk.proofs.Nested.{operations-eq}
+
+pub con-operands : (l : Layout) (o : ℕ) → con l slots (2 * o) ≡ (operands, (op, o))
+unfolding rowsOf
+con-operands l o =
+    let q : 2 * o / 2 ≡ o = omega arith in
+    if-pos {C = Con} (ℕ-discrete (2 * o % 2) 0) (omega arith) (operands, (op, 2 * o / 2)) (successors, (op, 2 * o / 2)) ∙ ap (λ (p : ℕ). (operands, (op, p))) q
+
+pub con-successors : (l : Layout) (o : ℕ) → con l slots (2 * o + 1) ≡ (successors, (op, o))
+unfolding rowsOf
+con-successors l o =
+    let q : (2 * o + 1) / 2 ≡ o = omega arith in
+    if-neg {C = Con} (ℕ-discrete ((2 * o + 1) % 2) 0) (λ e. absurd (omega (arith, e))) (operands, (op, (2 * o + 1) / 2)) (successors, (op, (2 * o + 1) / 2)) ∙ ap (λ (p : ℕ). (successors, (op, p))) q
+
+module _ {l : Layout} {w : Walked} {m : List ℕ} (o : ℕ) (C : CanDrop l (op, o) w m) where
+  abbrev P : State
+  P = stateOf l m
+
+  pub place : o < l .ops
+  place = place< (C .store) (op, o) (C .live)
+
+  pub first-row : 2 * o < ncOf l slots
+  first-row = omega (arith, place)
+
+  pub second-row : 2 * o + 1 < ncOf l slots
+  second-row = omega (arith, place)
+
+  pub one-left : 1 ≤ w .left
+  one-left = omega (arith, C .enough, operations-eq (C .store .sound .linked) (op, o), tick-yes (Kind-dec op op) refl)
+
+  module _ {m₁ : List ℕ} {a : ℕ} (D : DroppedAll l (2 * o) m m₁ a) where
+    state₁ : stateOf l m₁ ≡ cutAll (P .list (op, o) operands) P
+    state₁ = D .state ∙ ap (λ (c : Con). cutAll (P .list (c .1) (c .0)) P) (con-operands l o)
+
+    a-is : a ≡ length (P .list (op, o) operands)
+    a-is = D .counted ∙ ap (λ (c : Con). length (P .list (c .1) (c .0))) (con-operands l o)
+
+    -- no use stands in both
+    apart : (u : Thing) → In Thing-dec u (P .list (op, o) successors) → among (P .list (op, o) operands) u ≡ 0
+    apart u i = omega (arith, i, uses-at (C .store .sound .linked) u (op, o), count-append Thing-dec u (P .list (op, o) operands) (P .list (op, o) successors), bound (outer (P .own u slots)))
+      where
+        bound : (q : Option Thing) → upTo q (op, o) ≤ 1
+        bound none = omega arith
+        bound (some z) = by-cases (Thing-dec z (op, o)) (λ e. omega (arith, tick-yes (Thing-dec z (op, o)) e)) (λ n. omega (arith, tick-no (Thing-dec z (op, o)) n))
+
+    seconds : stateOf l m₁ .list (op, o) successors ≡ P .list (op, o) successors
+    unfolding cutBy
+    seconds = ap (λ (Q : State). Q .list (op, o) successors) state₁ ∙ sift-all Thing-dec (among (P .list (op, o) operands)) (P .list (op, o) successors) apart
+
+    pub few-a : a ≤ 64
+    few-a = omega (arith, a-is, C .store .sound .linked .short (op, o) operands Limited.of-operands)
+
+    module _ {m₂ : List ℕ} {b : ℕ} (E : DroppedAll l (2 * o + 1) m₁ m₂ b) where
+      b-is : b ≡ length (P .list (op, o) successors)
+      b-is = E .counted ∙ ap (λ (c : Con). length (stateOf l m₁ .list (c .1) (c .0))) (con-successors l o) ∙ ap length seconds
+
+      pub few-b : b ≤ 64
+      few-b = omega (arith, b-is, C .store .sound .linked .short (op, o) successors Limited.of-successors)
+
+      state₂ : stateOf l m₂ ≡ cutAll (usesAt P (op, o)) P
+      state₂ =
+          E .state
+          ∙ ap (λ (c : Con). cutAll (stateOf l m₁ .list (c .1) (c .0)) (stateOf l m₁)) (con-successors l o)
+          ∙ ap₂ {C = State} (λ (u : List Thing) (Q : State). cutAll u Q) seconds state₁
+          ∙ cut-append (P .list (op, o) operands) (P .list (op, o) successors) P
+
+      pub own-dropped : OwnDropped l (op, o) w m m₂ (record { left = w .left - 1; freed = w .freed + 1; ended = w .ended + a + b })
+      own-dropped =
+          record {
+            store = E .sound;
+            rest = E .rest ∙ D .rest;
+            state = state₂;
+            numbers =
+                record {
+                  left = omega (arith, one-left);
+                  freed = omega arith;
+                  ended = omega (arith, a-is, b-is, length-append (P .list (op, o) operands) (P .list (op, o) successors));
+                  small = omega (arith, few-a, few-b, one-left);
+                };
+          }

@@ -1,0 +1,46 @@
+use borrow.Author.Needs.{needs}
+use mathlib.Core.Path.{_≡_, refl, sym, ap, _∙_}
+use mathlib.Core.Bool.{Bool, true, false, not, _&&_, _||_}
+use Prim.Native.Nat.{ℕ, _+_, _-_, _*_, _%_, _<_}
+use native.Mathlib.Omega.{arith}
+use Rattle.places.specs.Store.{op, blk, reg, usg, Live, up, slots, useSets, regs, opsIn, blocksIn}
+use Rattle.context.specs.Memory.{stateOf}
+use Rattle.context.proofs.Places.{place<}
+use Rattle.walk.proofs.Asked.{dead-at, live-at, no-operation}
+use Rattle.walk.proofs.VerdictEdit.{did-judge}
+use Rattle.rules.specs.Refusal.{named}
+use Rattle.places.proofs.Nest.{kindCode}
+use Rattle.walk.proofs.operation_verdict.Statement.{statement}
+use Rattle.walk.proofs.operation_verdict.Tie as tie
+use Rattle.walk.proofs.operation_verdict.Reads as reads
+use Rattle.walk.proofs.operation_verdict.Lts as lts
+use Rattle.context.proofs.find.Reads as find-reads
+use Rattle.walk.proofs.verify_operation.Reads as verify-operation-reads
+
+find-requires : tie.Need-find-requires
+find-requires c κs = search needs
+
+enum-known-f : tie.Need-enum-known-f
+enum-known-f c = search needs
+
+enum-told : tie.Need-enum-told
+enum-told c = search needs
+
+returns : tie.Need-returns
+unfolding named
+returns c =
+    no-operation (c .before .before .before .before .pre) _ (c .before .before .before .before .args .number) (dead-at (stateOf (c .before .before .before .before .args .l) (c .before .before .before .before .args .m .now)) op (c .before .before .before .before .args .number) (c .before .before .find .result) (c .before .before .find .ensures) (c .enum-told .given .1)) refl
+
+verify-operation-requires : tie.Need-verify-operation-requires
+verify-operation-requires c κs =
+    (c .before .before .before .before .before .pre, live-at (stateOf (c .before .before .before .before .before .args .l) (c .before .before .before .before .before .args .m .now)) op (c .before .before .before .before .before .args .number) (c .before .f .given .0 .0) (c .before .before .before .find .result) (c .before .before .before .find .ensures) (c .before .f .given .1) .0)
+
+returns-2 : tie.Need-returns-2
+unfolding kindCode
+returns-2 c =
+    did-judge (c .before .before .before .before .before .before .pre) (op, c .before .before .f .given .0 .0) (omega arith) (live-at (stateOf (c .before .before .before .before .before .before .args .l) (c .before .before .before .before .before .before .args .m .now)) op (c .before .before .before .before .before .before .args .number) (c .before .before .f .given .0 .0) (c .before .before .before .before .find .result) (c .before .before .before .before .find .ensures) (c .before .before .f .given .1) .0) (c .before .before .before .before .before .before .args .number) (c .verify-operation .result) (live-at (stateOf (c .before .before .before .before .before .before .args .l) (c .before .before .before .before .before .before .args .m .now)) op (c .before .before .before .before .before .before .args .number) (c .before .before .f .given .0 .0) (c .before .before .before .before .find .result) (c .before .before .before .before .find .ensures) (c .before .before .f .given .1) .1) (c .verify-operation .ensures .is)
+
+pub operation-verdict-spec : {M : Type 1} → statement M
+operation-verdict-spec =
+    tie.close
+    (tie.spec find-requires enum-known-f enum-told returns verify-operation-requires returns-2)

@@ -1,0 +1,88 @@
+use borrow.Author.Needs.{needs}
+use mathlib.Core.Path.{_≡_, refl, sym, ap, _∙_}
+use mathlib.Core.Bool.{Bool, true, false, not, _&&_, _||_}
+use Prim.Native.Nat.{ℕ, _+_, _-_, _*_, _%_, _<_}
+use native.Mathlib.Omega.{arith}
+use Rattle.places.specs.Store.{op, blk, reg, usg, Live, up, slots, useSets, regs, opsIn, blocksIn}
+use Rattle.context.specs.Memory.{stateOf}
+use Rattle.context.proofs.Places.{place<}
+use Rattle.walk.proofs.Cursor.{ahead, here, less}
+use Rattle.walk.proofs.Search.{nay, yea, Searching, searching, hit, miss, over, names?, names-is, stray?, stray-is}
+use Rattle.walk.proofs.JudgeLaws.{set-row}
+use Rattle.walk.proofs.stray_user.Statement.{statement}
+use Rattle.walk.proofs.stray_user.Tie as tie
+use Rattle.walk.proofs.stray_user.Reads as reads
+use Rattle.walk.proofs.stray_user.Lts as lts
+use Rattle.context.proofs.first_of.Reads as first-of-reads
+use Rattle.context.proofs.next_of.Reads as next-of-reads
+use Rattle.walk.proofs.user_placed.Reads as user-placed-reads
+
+abbrev Inv-loop : tie.InvT-loop
+Inv-loop m l b k₀ k =
+    Searching l useSets (l .values + b) m k (stray? (stateOf l m))
+
+abbrev μ-loop : tie.MeasureT-loop
+μ-loop m l b k₀ k =
+    ahead l useSets (l .values + b) m k
+
+add-first-of : tie.Need-add-first-of Inv-loop μ-loop
+add-first-of c =
+    omega (arith, place< (c .before .before .pre .0) (blk, c .before .before .args .b) (c .before .before .pre .1), c .before .before .pre .0 .well .caps .blocks, c .before .before .pre .0 .well .caps .values)
+
+first-of-requires : tie.Need-first-of-requires Inv-loop μ-loop
+first-of-requires c κs =
+    (c .before .before .pre .0 .well, set-row (c .before .before .pre .0) (c .before .before .args .b) (c .before .before .pre .1))
+
+loop-holds : tie.Need-loop-holds Inv-loop μ-loop
+loop-holds c =
+    searching _ (c .first-of .result) (c .first-of .ensures)
+
+sub-user-placed : tie.Need-sub-user-placed Inv-loop μ-loop
+sub-user-placed c =
+    search needs
+
+user-placed-requires : tie.Need-user-placed-requires Inv-loop μ-loop
+user-placed-requires c κs =
+    (c .before .before .before .before .before .pre .0, here (c .before .before .before .before .before .pre .0) (c .before .loop .inv .at) (c .loop-test .taken) .live)
+
+returns : tie.Need-returns Inv-loop μ-loop
+returns c =
+    hit (c .before .before .before .before .before .before .before .pre .0) (c .before .before .before .loop .inv) (c .before .before .loop-test .taken) (ap not (sym (c .before .user-placed .ensures)) ∙ c .if1 .taken) ∙ stray-is (c .before .before .before .before .before .before .before .pre .0) (c .before .before .before .before .before .before .before .args .b)
+
+sub-next-of : tie.Need-sub-next-of Inv-loop μ-loop
+sub-next-of c =
+    search needs
+
+next-of-requires : tie.Need-next-of-requires Inv-loop μ-loop
+next-of-requires c κs =
+    (c .before .before .before .before .before .before .before .pre .0 .well, here (c .before .before .before .before .before .before .before .pre .0) (c .before .before .before .loop .inv .at) (c .before .before .loop-test .taken) .place)
+
+loop-less : tie.Need-loop-less Inv-loop μ-loop
+loop-less c =
+    less (c .before .before .before .before .before .before .before .before .pre .0) (c .before .before .before .before .loop .inv .at) (c .before .before .before .loop-test .taken) (c .next-of .result) (c .next-of .ensures)
+
+loop-again : tie.Need-loop-again Inv-loop μ-loop
+loop-again c =
+    miss (c .before .before .before .before .before .before .before .before .pre .0) (c .before .before .before .before .loop .inv) (c .before .before .before .loop-test .taken) (ap not (sym (c .before .before .user-placed .ensures)) ∙ c .before .if1 .left) (c .next-of .result) (c .next-of .ensures)
+
+returns-2 : tie.Need-returns-2 Inv-loop μ-loop
+returns-2 c =
+    over (c .before .before .before .before .before .pre .0) (c .before .loop .inv) (c .loop-test .left) ∙ stray-is (c .before .before .before .before .before .pre .0) (c .before .before .before .before .before .args .b)
+
+pub stray-user-spec : {M : Type 1} → statement M
+stray-user-spec =
+    tie.close
+    (tie.spec
+    Inv-loop
+    μ-loop
+    add-first-of
+    first-of-requires
+    loop-holds
+    sub-user-placed
+    user-placed-requires
+    returns
+    sub-next-of
+    next-of-requires
+    loop-less
+    loop-again
+    returns-2)

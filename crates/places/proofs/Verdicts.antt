@@ -328,7 +328,7 @@ module _ {P : State} (S : Sound P) (e : ℕ) where
             let n : member (num P (blk, b)) (seen o .targets) ≡ true = aims-num o b lb ∙ any-in Thing-dec (λ u. heldBy (P .own u useSets) (blockUses, (blk, b))) (P .list (op, o) successors) (a .0) (standing (a .0) (op, o) successors at) (ap (λ (c : Option Con). heldBy c (blockUses, (blk, b))) d ∙ held-self (blockUses, (blk, b))) in
             mapped F seen (P .tab op .order) ∙ any-in ℕ-discrete (λ o. F (seen o)) (P .tab op .order) o l (ap₂ _&&_ n (ap not (says o l ∙ sym (at-op o (a .0) at)) ∙ a .2))
 
-    stray-num : stray-user v (num P (blk, b)) ≡ strayUser P (blk, b)
+    pub stray-num : stray-user v (num P (blk, b)) ≡ strayUser P (blk, b)
     unfolding stray-user strayUser
     stray-num = any-user (λ x. is-some (x .block)) (λ o. is-some (up P o)) (λ o l. ap is-some (seen-up o) ∙ is-some-num P (up P (op, o)))
 

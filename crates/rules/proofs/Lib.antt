@@ -23,6 +23,7 @@ pub mod Acyclic
 pub mod Soundness
 pub mod Whole
 pub mod Lives
+pub mod Alike
 pub mod Refined
 pub mod Verdicts
 pub mod Readings

@@ -17,6 +17,7 @@ use Rattle.rules.specs.Demand.{View, view, Demand3}
 use Rattle.rules.specs.Refine.{AsStep, EditAway, AsRun, ScriptAway, Refines, Runs, done, edit-then, script-then}
 use Rattle.rules.proofs.Closure.{call-keeps}
 use Rattle.rules.proofs.Soundness.{sound-of}
+use Rattle.rules.proofs.Alike.{alike-same, alike-demand}
 use Rattle.rules.proofs.Whole.{Kept, kept-accept, kept-start, demanded}
 
 -- a refusal tells of no edit
@@ -63,7 +64,7 @@ module _
   demand-3-of-memory k m o cs rss b runs =
       let a = R .starts k m b in
       let z = runs-keep [] runs (a .0) (started-kept k m (a .1)) in
-      subst (λ (v : View). Demand3 v (recall [] cs rss)) (sym (R .seen o (z .0) (sound-of (abs o) (z .1 .core)))) (demanded (abs o) (recall [] cs rss) (z .1))
+      alike-demand (see o) (view (abs o)) (R .seen o (z .0) (sound-of (abs o) (z .1 .core))) (recall [] cs rss) (demanded (abs o) (recall [] cs rss) (z .1))
 
   -- and it is sound: no call of such a list gets 6
   pub memory-sound : (k : Five) (m o : M) (cs : List Call) (rss : List (List Reply)) → Started k m → Runs M Good abs see Started Edited Scripted m cs rss o → Good o × Sound (abs o)
@@ -85,4 +86,4 @@ by-rule-script s room bytes code rs t = AsRun s room bytes code rs t
 
 pub by-rule : Refines State (λ _. Unit {0}) (λ s. s) view by-rule-start by-rule-edit by-rule-script
 unfolding by-rule-start by-rule-edit by-rule-script
-by-rule = record { starts = λ k m e. (tt, e); edits = λ m bytes r n _ _ e. (tt, inl e); scripts = λ m room bytes code rs n _ _ e. (tt, inl e); seen = λ m _ _. refl }
+by-rule = record { starts = λ k m e. (tt, e); edits = λ m bytes r n _ _ e. (tt, inl e); scripts = λ m room bytes code rs n _ _ e. (tt, inl e); seen = λ m _ _. alike-same (view m) }

@@ -11,5 +11,6 @@ pub mod Calls
 pub mod Told
 pub mod Demand
 pub mod Sound
+pub mod Alike
 pub mod Refine
 pub mod Examples

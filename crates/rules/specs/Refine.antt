@@ -11,6 +11,7 @@ use Rattle.rules.specs.Step.{step}
 use Rattle.rules.specs.Script.{run}
 use Rattle.rules.specs.Calls.{Call, single, script}
 use Rattle.rules.specs.Demand.{View, view}
+use Rattle.rules.specs.Alike.{Alike}
 use Rattle.rules.specs.Sound.{Sound}
 
 -- a single edit as the rules have it
@@ -49,7 +50,7 @@ module _
     pub starts : (k : Five) (m : M) → Started k m → Good m × (abs m ≡ start k)
     pub edits : (m : M) (bytes : List ℕ) (r : Reply) (n : M) → Good m → Sound (abs m) → Edited m bytes r n → Good n × (AsStep (abs m) bytes r (abs n) ⊎ EditAway (abs m) r (abs n))
     pub scripts : (m : M) (room : ℕ) (bytes : List ℕ) (code : ℕ) (rs : List Reply) (n : M) → Good m → Sound (abs m) → Scripted m room bytes code rs n → Good n × (AsRun (abs m) room bytes code rs (abs n) ⊎ ScriptAway (abs m) code rs (abs n))
-    pub seen : (m : M) → Good m → Sound (abs m) → see m ≡ view (abs m)
+    pub seen : (m : M) → Good m → Sound (abs m) → Alike (see m) (view (abs m))
 
   -- a list of calls, each given the memory as the last one left it
   pub data Runs : M → List Call → List (List Reply) → M → Type 0 where

@@ -5,4 +5,7 @@ pub mod Taking
 pub mod Moving
 pub mod Replacing
 pub mod Placing
-pub mod Words
+pub mod Cursor
+pub mod Choosing
+pub mod Retargeting
+pub mod RetargetEdit

@@ -1,27 +1,23 @@
 -- What the look-ups and the shared tests find. Assumes nothing.
 use mathlib.Core.Path.{_≡_, refl, sym, ap, _∙_}
-use mathlib.Core.Logic.{_≢_, ite, if-pos, if-neg}
-use mathlib.Core.Bool.{Bool, true, false}
+use mathlib.Core.Logic.{_≢_, if-pos, if-neg}
 use mathlib.Core.List.{List, [], _∷_}
-use mathlib.Core.Option.{Option, none, some}
+use mathlib.Core.Option.{some}
 use Prim.Native.Nat.{ℕ, zero, suc, _+_, _-_, _*_, _≤_, _<_}
 use native.Mathlib.Decide.{decLt}
 use native.Mathlib.Omega.{arith}
-use lib.Dec.{leb, ltb}
-use lib.ListN.{length, getD}
 use borrow.Author.Tests.{lt-ltb, le-ltb, le-leb, lt-leb}
 use Rattle.bits.specs.declared.Found.{Found}
 use Rattle.bits.specs.declared.Found.the-variants.{At, Nothing}
-use Rattle.edit.specs.Record.{Slot, operand, successor, push-use, insert-use, replace-use, remove-use, pop-use, move-use, replace-some}
+use Rattle.edit.specs.Record.{Slot, operand, successor, push-use, insert-use, replace-use, remove-use, pop-use, move-use, replace-some, retarget-some}
 use Rattle.rules.specs.Refusal.{operation-named, definition-named, named, check}
-use Rattle.places.specs.Store.{Kind, op, blk, val, usg, Role, operands, successors, valueUses, blockUses, slots, useSets, Con, State, Live}
+use Rattle.places.specs.Store.{op, blk, val, usg, operands, successors, valueUses, blockUses, useSets, Con, State, Live}
 use Rattle.places.specs.View.{num}
 use Rattle.places.specs.Roles.{Unnamed, missingCode, defKind}
 use Rattle.places.specs.Parts.{rowsOf}
 use Rattle.places.proofs.Rows.{mine}
 use Rattle.context.specs.declared.Layout.{Layout}
-use Rattle.context.specs.Layout.{ncOf}
-use Rattle.context.specs.Memory.{con, rowsFor, stateOf, SoundStore, Finds, RoomIs, roomCode}
+use Rattle.context.specs.Memory.{con, rowsFor, stateOf, SoundStore, Finds, RoomIs}
 use Rattle.context.specs.Reading.{NumberIs}
 use Rattle.context.proofs.Families.{con-back}
 use Rattle.context.proofs.Places.{place<}
@@ -171,6 +167,10 @@ names-move sl a x b = refl
 pub names-some : (a b : ℕ) (us : List ℕ) → named (replace-some a b us) ≡ definition-named operand a ∷ definition-named operand b ∷ []
 unfolding named definition-named
 names-some a b us = refl
+
+pub names-retarget : (a b : ℕ) (ps : List ℕ) → named (retarget-some a b ps) ≡ definition-named successor a ∷ definition-named successor b ∷ []
+unfolding named definition-named
+names-retarget a b ps = refl
 
 -- two sets with one number are one
 pub same-row : (l : Layout) (j k : ℕ) → con l useSets j ≡ con l useSets k → j ≡ k

@@ -1,13 +1,12 @@
 -- One use moves to another definition, each way out. Assumes nothing.
 use mathlib.Core.Path.{_≡_, refl, sym, ap, ap₂, _∙_, subst}
 use mathlib.Core.Logic.{_≢_}
-use mathlib.Core.Bool.{Bool, true, false}
+use mathlib.Core.Bool.{Bool, false}
 use mathlib.Core.List.{List, [], _∷_}
-use mathlib.Core.Option.{Option, none, some}
-use Prim.Native.Nat.{ℕ, zero, suc, _+_, _-_, _*_, _≤_, _<_}
+use mathlib.Core.Option.{some}
+use Prim.Native.Nat.{ℕ, suc, _+_, _-_, _≤_}
 use native.Mathlib.Omega.{arith}
 use lib.Dec.{eqb}
-use lib.ListN.{length}
 use borrow.Author.Tests.{eq-eqb, ne-eqb}
 use Rattle.bits.specs.declared.Found.{Found}
 use Rattle.bits.specs.declared.Found.the-variants.{At, Nothing}
@@ -21,7 +20,7 @@ use Rattle.rules.specs.Refusal.{Name, definition-named, named, check, from-stat
 use Rattle.rules.specs.Step.{answer}
 use Rattle.seqs.specs.Seqs.{tick}
 use Rattle.seqs.proofs.Base.{tick-yes, tick-no}
-use Rattle.places.specs.Store.{op, usg, slots, useSets, Thing, Con, Con-dec, State, Live, Fit, UseHeld}
+use Rattle.places.specs.Store.{usg, useSets, Con, Con-dec, State, Live, Fit, UseHeld}
 use Rattle.places.specs.View.{num}
 use Rattle.places.specs.Hist.{meaning}
 use Rattle.places.specs.Edits.{moveUse}

@@ -1,8 +1,8 @@
 -- The contract of an edit from its refusal: refused, nothing changed; or accepted. Assumes nothing.
-use mathlib.Core.Path.{_≡_, refl, sym, ap, _∙_}
+use mathlib.Core.Path.{_≡_, refl, sym, ap, _∙_, subst}
 use mathlib.Core.Logic.{_≢_}
 use mathlib.Core.List.{List}
-use Prim.Native.Nat.{ℕ, zero, suc, _-_}
+use Prim.Native.Nat.{ℕ, suc, _-_}
 use native.Mathlib.Omega.{arith}
 use Rattle.edit.specs.Record.{Edit}
 use Rattle.edit.specs.Answer.{Reply, found, refuse, numbers-of}
@@ -33,3 +33,7 @@ accepts {l} {m} E S e st rest a b an =
     let s : RState = meaning (stateOf l m) in
     let p : perform s E ≡ (answer E s (accept E s .history), accept E s) = accepted s E e in
     record { sound = S; reply = sym an ∙ sym (ap (λ (x : Reply × RState). x .0) p); state = st ∙ sym (ap (λ (x : Reply × RState). x .1) p); kept = λ z. absurd (z e); rest = rest }
+
+-- the edit that a record asks for
+pub as-asked : {l : Layout} {D E : Edit} {m m′ : List ℕ} {r : Answer} → D ≡ E → Performed l D m m′ r → Performed l E m m′ r
+as-asked {l} {m} {m′} {r} e P = subst (λ (E : Edit). Performed l E m m′ r) e P

@@ -1,9 +1,8 @@
 -- Replace, each way out: the use at the index ends, and a new one is born there. Assumes nothing.
-use mathlib.Core.Path.{_≡_, refl, sym, ap, ap₂, _∙_, subst}
-use mathlib.Core.Logic.{_≢_, ite, if-pos, if-neg}
-use mathlib.Core.List.{List, [], _∷_}
-use mathlib.Core.Option.{Option, none, some}
-use Prim.Native.Nat.{ℕ, zero, suc, _+_, _-_, _*_, _≤_, _<_}
+use mathlib.Core.Path.{_≡_, refl, sym, ap, ap₂, _∙_}
+use mathlib.Core.Logic.{ite, if-pos, if-neg}
+use mathlib.Core.List.{List}
+use Prim.Native.Nat.{ℕ, _≤_, _<_}
 use native.Mathlib.Decide.{decLt}
 use native.Mathlib.Omega.{arith}
 use lib.Dec.{leb}
@@ -15,8 +14,7 @@ use Rattle.edit.specs.declared.Answer.the-variants.{Accepted, Refused}
 use Rattle.rules.specs.State.{accept}
 use Rattle.rules.specs.Refusal.{named, check, refusal-of}
 use Rattle.rules.specs.Step.{answer}
-use Rattle.places.specs.Store.{op, usg, slots, useSets, Thing, Con, State, alive, Live, UseHeld}
-use Rattle.places.specs.View.{num}
+use Rattle.places.specs.Store.{op, usg, slots, useSets, Con, State, UseHeld}
 use Rattle.places.specs.Hist.{meaning}
 use Rattle.places.specs.Edits.{birthUse, endUse}
 use Rattle.places.specs.Roles.{slotRole, defKind, defRole}

@@ -1,31 +1,29 @@
 -- Remove and pop, each way out; and the use that is taken out. Assumes nothing.
-use mathlib.Core.Path.{_≡_, refl, sym, ap, ap₂, _∙_}
-use mathlib.Core.Logic.{_≢_}
-use mathlib.Core.List.{List, [], _∷_, map}
-use mathlib.Core.Option.{Option, none, some}
-use Prim.Native.Nat.{ℕ, zero, suc, _+_, _-_, _*_, _≤_, _<_}
+use mathlib.Core.Path.{_≡_, refl, sym, ap, _∙_}
+use mathlib.Core.List.{List}
+use mathlib.Core.Option.{some}
+use Prim.Native.Nat.{ℕ, zero, suc, _-_, _≤_, _<_}
 use native.Mathlib.Omega.{arith}
 use lib.Dec.{leb, eqb}
 use lib.ListN.{length, getD}
 use borrow.Author.Tests.{le-leb, lt-leb, eq-eqb, ne-eqb}
-use Rattle.edit.specs.Record.{Slot, Edit, remove-use, pop-use}
+use Rattle.edit.specs.Record.{Slot, remove-use, pop-use}
 use Rattle.edit.specs.Answer.{found}
 use Rattle.edit.specs.declared.Answer.the-variants.{Accepted, Refused}
 use Rattle.rules.specs.State.{accept}
 use Rattle.rules.specs.Refusal.{named, check, refusal-of}
-use Rattle.places.specs.Store.{op, usg, slots, useSets, fam, Thing, Con, State, Live, Link, UseHeld}
+use Rattle.places.specs.Store.{op, usg, slots, useSets, Con, State, Live, UseHeld}
 use Rattle.places.specs.Hist.{meaning}
 use Rattle.places.specs.Edits.{endUse}
 use Rattle.places.specs.View.{num}
-use Rattle.places.specs.Parts.{nodeIn, conOf}
+use Rattle.places.specs.Parts.{conOf}
 use Rattle.places.specs.Roles.{slotRole}
 use Rattle.places.proofs.Steps.{some-inj, some-none}
 use Rattle.places.proofs.RuleEnds.{at-live, at-held, at-number, remove-accept, pop-accept}
 use Rattle.places.proofs.RuleCodes.{only-operation, remove-code, pop-code, remove-answer, pop-answer}
 use Rattle.context.specs.declared.Layout.{Layout}
-use Rattle.context.specs.Layout.{ncOf}
 use Rattle.context.specs.Memory.{con, decode, stateOf, SoundStore, LengthIs, HomeIs}
-use Rattle.context.specs.Reading.{listOf, NthIs}
+use Rattle.context.specs.Reading.{NthIs}
 use Rattle.context.specs.Steps.{EndedUse}
 use Rattle.context.specs.Performed.{Performed}
 use Rattle.uses.specs.Look.{SlotAt, DefNumberIs, Taken}

@@ -1,16 +1,16 @@
 -- What the edits on uses look up first: an operation's list of operands or successors, and a definition, by number.
 -- Assumes nothing: these are definitions.
 use mathlib.Core.Path.{_≡_}
-use mathlib.Core.List.{List, []}
+use mathlib.Core.List.{List}
 use mathlib.Core.Option.{some}
-use Prim.Native.Nat.{ℕ, zero, suc, _+_, _≤_, _<_}
+use Prim.Native.Nat.{ℕ, zero, suc, _<_}
 use lib.Dec.{leb, ltb}
 use lib.ListN.{length, getD}
 use Rattle.bits.specs.declared.Found.{Found}
 use Rattle.bits.specs.declared.Found.the-variants.{At, Nothing}
 use Rattle.edit.specs.Record.{Slot, operand, successor}
 use Rattle.rules.specs.Refusal.{check}
-use Rattle.places.specs.Store.{op, usg, slots, useSets, Con, State, Live}
+use Rattle.places.specs.Store.{op, usg, slots, useSets, Con, Live}
 use Rattle.places.specs.View.{num}
 use Rattle.places.specs.Roles.{Unnamed, slotRole, defKind, defRole}
 use Rattle.context.specs.declared.Layout.{Layout}

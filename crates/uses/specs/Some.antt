@@ -1,11 +1,10 @@
 -- The listed uses of a definition that move to another, one after the other. Assumes nothing: these are definitions.
 use mathlib.Core.Path.{_≡_}
 use mathlib.Core.Logic.{_≢_}
-use mathlib.Core.List.{List, []}
+use mathlib.Core.List.{List}
 use mathlib.Core.Option.{some}
 use Prim.Native.Nat.{ℕ}
-use lib.ListN.{take, drop}
-use Rattle.edit.specs.Record.{operand, words, replace-some}
+use Rattle.edit.specs.Record.{Slot, operand, replace-some}
 use Rattle.rules.specs.State.{accept}
 use Rattle.places.specs.Store.{usg, useSets, Live}
 use Rattle.places.specs.View.{num}
@@ -15,16 +14,12 @@ use Rattle.context.specs.Memory.{part, con, stateOf, SoundStore}
 use Rattle.context.specs.Steps.{Moved}
 use Rattle.uses.specs.Look.{DefAt}
 
--- the n numbers from the byte `at` on
-abbrev pub wordsAt : List ℕ → ℕ → ℕ → List ℕ
-wordsAt bytes at n = take n (words (drop at bytes))
-
--- the use sets d and e are of two live values
-pub record Between (l : Layout) (m : List ℕ) (d e : ℕ) : Type 0 where
+-- the use sets d and e are of two live definitions
+pub record Between (l : Layout) (m : List ℕ) (sl : Slot) (d e : ℕ) : Type 0 where
   pub this : ℕ
   pub other : ℕ
-  pub from : DefAt l m operand this d
-  pub to : DefAt l m operand other e
+  pub from : DefAt l m sl this d
+  pub to : DefAt l m sl other e
 
 -- the use with the number x moved from d to e, if it stood in d
 pub data PlacedOne (l : Layout) (d e x : ℕ) (m : List ℕ) : List ℕ → Type 0 where

@@ -1,20 +1,28 @@
-// Edits on uses: push, insert, replace, remove and pop for operands and successors; the move of a use to another definition.
+// Edits on uses: push, insert, replace, remove and pop for operands and successors; the move of one use, or of listed ones, to another definition.
 // Ported from pliron 0.20.0 (src/operation.rs, src/value.rs), Apache-2.0.
 use bits::Found;
 use context::Layout;
 use edit::Answer;
 ghost use mathlib.Core.Path.{_≡_};
-ghost use Prim.Native.Nat.{ℕ, _+_, _-_, _*_, _≤_, _<_};
-ghost use lib.ListN.{length, getD, drop};
-ghost use Rattle.edit.specs.Record.{push-use, insert-use, replace-use, remove-use, pop-use, move-use, operand, words, replace-some};
+ghost use Prim.Native.Nat.{_<_};
+ghost use mathlib.Core.Logic.{_≢_};
+ghost use lib.ListN.{length, drop};
+ghost use Rattle.edit.specs.Record.{push-use, insert-use, replace-use, remove-use, pop-use, move-use, operand, successor};
+ghost use Rattle.edit.specs.Taken.{fields-of, edit-of};
+ghost use Rattle.rules.specs.Table.{member};
 ghost use Rattle.places.specs.Store.{usg, slots, useSets, Live};
 ghost use Rattle.places.specs.Roles.{missingCode, defKind};
 ghost use Rattle.context.specs.Layout.{ncOf};
 ghost use Rattle.context.specs.Memory.{con, stateOf, Well, SoundStore};
 ghost use Rattle.context.specs.Reading.{listOf};
+ghost use Rattle.context.specs.Steps.{CanMove};
 ghost use Rattle.context.specs.Performed.{Performed};
-ghost use Rattle.uses.specs.Some.{wordsAt, Between, PlacedOne, PlacedAll};
+ghost use Rattle.uses.specs.Some.{Between, PlacedOne, PlacedAll};
+ghost use Rattle.uses.specs.Retarget.{BlockOf, StrayIs, Chosen, RetargetedOne, RetargetedAll};
 ghost use Rattle.uses.specs.Look.{slotBy, SlotFound, DefFound, GrowIs, DefNumberIs, Taken};
+
+// The field from which on kinds 34 and 35 list numbers.
+const FIRST_LISTED: usize = 2;
 
 // The list of operands (`sl` 0) or successors of the operation with this number.
 pub fn slot_of(m: &[u32], l: Layout, sl: usize, number: u32) -> Found
@@ -239,70 +247,45 @@ pub fn replace_use(m: &mut [u32], l: Layout, sl: usize, number: u32, index: u32,
     Answer::Accepted(0, 0)
 }
 
-fn wide(x: u8) -> u32
-    ensures { λ r. ⌜ (r ≡ x) × (r < 256) ⌝ }
-{
-    x as u32
-}
-
-// Number `i` of those that stand from the byte `at` on.
-fn listed(bytes: &[u8], at: usize, i: usize) -> u32
-    requires { ⌜ at + 4 * i + 4 ≤ length (now bytes) ⌝ }
-    ensures { λ r. ⌜ r ≡ getD (words (drop at (now (bytes .entry)))) i 0 ⌝ }
-{
-    let p = at + 4 * i;
-    wide(bytes[p])
-        + 256 * wide(bytes[p + 1])
-        + 65536 * wide(bytes[p + 2])
-        + 16777216 * wide(bytes[p + 3])
-}
-
 // The use with this number moves from the set `d` to the set `e`, if it stands in `d`.
 pub fn place_one(m: &mut [u32], l: Layout, d: usize, e: usize, number: u32)
     requires { ⌜ SoundStore l (now m) ⌝ }
-    requires { ⌜ Between l (now m) d e ⌝ }
+    requires { ⌜ Between l (now m) operand d e ⌝ }
     ensures { λ _. ⌜ PlacedOne l d e number (now (m .entry)) (now (m .exit)) ⌝ }
 {
     let f = context::find(m, l, 4, number);
     let Found::At(u) = f else {
         return;
     };
-    let h = context::home_of(m, l, 1, u);
-    if h != d + 1 {
+    let set = context::home_of(m, l, 1, u);
+    if set != d + 1 {
         return;
     }
     context::move_use(m, l, u, e);
 }
 
-// The uses with the `n` numbers listed from the byte `at` on move from the set `d` to the set `e`.
-pub fn place_listed(m: &mut [u32], l: Layout, d: usize, e: usize, bytes: &[u8], at: usize, n: usize)
+// The listed uses move from the set `d` to the set `e`.
+pub fn place_listed(m: &mut [u32], l: Layout, d: usize, e: usize, rec: &[u8])
     requires { ⌜ SoundStore l (now m) ⌝ }
-    requires { ⌜ Between l (now m) d e ⌝ }
-    requires { ⌜ at + 4 * n ≤ length (now bytes) ⌝ }
-    ensures { λ _. ⌜ PlacedAll l d e (wordsAt (now (bytes .entry)) at n) (now (m .entry)) (now (m .exit)) ⌝ }
+    requires { ⌜ Between l (now m) operand d e ⌝ }
+    ensures { λ _. ⌜ PlacedAll l d e (drop 2 (fields-of (now (rec .entry)))) (now (m .entry)) (now (m .exit)) ⌝ }
 {
-    let mut i = 0;
+    let n = edit::field_count(rec);
+    let mut i = FIRST_LISTED;
     while i < n {
-        let x = listed(bytes, at, i);
+        let x = edit::field(rec, i);
         place_one(m, l, d, e, x);
         i += 1;
     }
 }
 
 // Kind 34: the listed uses of this value become uses of the other.
-pub fn replace_some(
-    m: &mut [u32],
-    l: Layout,
-    this: u32,
-    other: u32,
-    bytes: &[u8],
-    at: usize,
-    n: usize,
-) -> Answer
+pub fn replace_some(m: &mut [u32], l: Layout, rec: &[u8]) -> Answer
     requires { ⌜ SoundStore l (now m) ⌝ }
-    requires { ⌜ at + 4 * n ≤ length (now bytes) ⌝ }
-    ensures { λ r. ⌜ Performed l (replace-some this other (wordsAt (now (bytes .entry)) at n)) (now (m .entry)) (now (m .exit)) r ⌝ }
+    ensures { λ r. ⌜ Performed l (edit-of 34 (fields-of (now (rec .entry)))) (now (m .entry)) (now (m .exit)) r ⌝ }
 {
+    let this = edit::field(rec, 0);
+    let other = edit::field(rec, 1);
     let a = def_of(m, l, 0, this);
     let Found::At(d) = a else {
         return Answer::Refused(10);
@@ -311,6 +294,118 @@ pub fn replace_some(
     let Found::At(e) = b else {
         return Answer::Refused(10);
     };
-    place_listed(m, l, d, e, bytes, at, n);
+    place_listed(m, l, d, e, rec);
+    Answer::Accepted(0, 0)
+}
+
+// Whether the record lists the number.
+fn is_listed(rec: &[u8], number: u32) -> bool
+    ensures { λ r. ⌜ r ≡ member number (drop 2 (fields-of (now (rec .entry)))) ⌝ }
+{
+    let n = edit::field_count(rec);
+    let mut i = FIRST_LISTED;
+    while i < n {
+        let x = edit::field(rec, i);
+        if x == number {
+            return true;
+        }
+        i += 1;
+    }
+    false
+}
+
+// The place + 1 of the block of the operation at which the use stands; 0 for no block.
+pub fn block_of(m: &[u32], l: Layout, u: usize) -> usize
+    requires { ⌜ SoundStore l (now m) ⌝ }
+    requires { ⌜ Live (stateOf l (now m)) (usg, u) ⌝ }
+    ensures { λ r. ⌜ BlockOf l u (now (m .entry)) r ⌝ }
+{
+    let s = context::home_of(m, l, 0, u);
+    context::home_of(m, l, 4, (s - 1) / 2)
+}
+
+// Whether a use in the set `d` stands at an operation that is in no block.
+pub fn stray_user(m: &[u32], l: Layout, d: usize) -> bool
+    requires { ⌜ SoundStore l (now m) ⌝ }
+    requires { ⌜ d < ncOf l useSets ⌝ }
+    ensures { λ r. ⌜ StrayIs l d (now (m .entry)) r ⌝ }
+{
+    let mut k = context::first_of(m, l, 1, d);
+    while k != 0 {
+        let b = block_of(m, l, k - 1);
+        if b == 0 {
+            return true;
+        }
+        k = context::next_of(m, l, 1, k - 1);
+    }
+    false
+}
+
+// Whether the use stands at an operation of a block that is listed.
+fn is_chosen(m: &[u32], l: Layout, u: usize, rec: &[u8]) -> bool
+    requires { ⌜ SoundStore l (now m) ⌝ }
+    requires { ⌜ Live (stateOf l (now m)) (usg, u) ⌝ }
+    ensures { λ r. ⌜ Chosen l u (drop 2 (fields-of (now (rec .entry)))) (now (m .entry)) r ⌝ }
+{
+    let b = block_of(m, l, u);
+    if b == 0 {
+        return false;
+    }
+    let x = context::number_of(m, l, 1, b - 1);
+    is_listed(rec, x)
+}
+
+// The use moves to the set `e`, if it stands at an operation of a block that is listed.
+fn retarget_one(m: &mut [u32], l: Layout, e: usize, u: usize, rec: &[u8])
+    requires { ⌜ SoundStore l (now m) ⌝ }
+    requires { ⌜ e < ncOf l useSets ⌝ }
+    requires { ⌜ CanMove (stateOf l (now m)) u (con l useSets e) ⌝ }
+    ensures { λ _. ⌜ RetargetedOne l e u (drop 2 (fields-of (now (rec .entry)))) (now (m .entry)) (now (m .exit)) ⌝ }
+{
+    let c = is_chosen(m, l, u, rec);
+    if !c {
+        return;
+    }
+    context::move_use(m, l, u, e);
+}
+
+// The uses in the set `d` at operations of listed blocks move to the set `e`.
+fn retarget_listed(m: &mut [u32], l: Layout, d: usize, e: usize, rec: &[u8])
+    requires { ⌜ SoundStore l (now m) ⌝ }
+    requires { ⌜ Between l (now m) successor d e ⌝ }
+    requires { ⌜ d ≢ e ⌝ }
+    ensures { λ _. ⌜ RetargetedAll l d e (drop 2 (fields-of (now (rec .entry)))) (now (m .entry)) (now (m .exit)) ⌝ }
+{
+    let mut k = context::first_of(m, l, 1, d);
+    while k != 0 {
+        let n = context::next_of(m, l, 1, k - 1);
+        retarget_one(m, l, e, k - 1, rec);
+        k = n;
+    }
+}
+
+// Kind 35: the uses of this block at operations of listed blocks become uses of the other.
+pub fn retarget_some(m: &mut [u32], l: Layout, rec: &[u8]) -> Answer
+    requires { ⌜ SoundStore l (now m) ⌝ }
+    ensures { λ r. ⌜ Performed l (edit-of 35 (fields-of (now (rec .entry)))) (now (m .entry)) (now (m .exit)) r ⌝ }
+{
+    let this = edit::field(rec, 0);
+    let other = edit::field(rec, 1);
+    let a = def_of(m, l, 1, this);
+    let Found::At(d) = a else {
+        return Answer::Refused(8);
+    };
+    let b = def_of(m, l, 1, other);
+    let Found::At(e) = b else {
+        return Answer::Refused(8);
+    };
+    let s = stray_user(m, l, d);
+    if s {
+        return Answer::Refused(18);
+    }
+    if d == e {
+        return Answer::Accepted(0, 0);
+    }
+    retarget_listed(m, l, d, e, rec);
     Answer::Accepted(0, 0)
 }

@@ -8,3 +8,9 @@ pub mod JudgeLaws
 pub mod Search
 pub mod VerifyLaws
 pub mod VerdictEdit
+pub mod EraseLaws
+pub mod Climbing
+pub mod Strays
+pub mod EndValues
+pub mod EraseWalk
+pub mod EraseEdit

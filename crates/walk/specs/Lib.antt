@@ -1,2 +1,4 @@
 pub mod Drop
 pub mod Judge
+pub mod Tests
+pub mod Erase

@@ -12,9 +12,19 @@ ghost use Rattle.rules.specs.Verdict.{is-clean};
 ghost use Rattle.edit.specs.Answer.{numbers-of};
 ghost use Rattle.context.specs.Memory.{stateOf, SoundStore};
 ghost use Rattle.context.specs.Performed.{Performed};
-ghost use Rattle.edit.specs.Record.{the-operation, the-block, the-region, drop-uses, verdict};
+ghost use Rattle.edit.specs.Record.{the-operation, the-block, the-region, drop-uses, erase-operation, erase-block, erase-region, verdict};
 ghost use Rattle.walk.specs.Drop.{CanDrop, OwnDropped, Dropped};
 ghost use Rattle.walk.specs.Judge.{userPlaced, userLeads, UserIs, BlockAlone, OpJudged, BlockJudged, RegionJudged};
+ghost use Prim.Native.Nat.{_≤_, _<_};
+ghost use lib.ListN.{length};
+ghost use Rattle.seqs.specs.Seqs.{count, sum};
+ghost use Rattle.seqs.specs.Seqs.{Says};
+ghost use Rattle.places.specs.Store.{Thing-dec};
+ghost use Rattle.places.specs.Walk.{strays};
+ghost use Rattle.context.specs.Layout.{kindOf};
+ghost use Rattle.walk.specs.Tests.{within, outerCode, ParentIs, DepthIs, MarkIs, Testable, Marked, usesOf, strayUse, marksIn, eraseCode, Zeros, Tested, Scratch};
+ghost use Rattle.walk.specs.Erase.{CanErase, Erased, CanEndValues, EndedValues, OwnEnded, innerCode, ChildIs, EraseAnswer};
+ghost use Rattle.context.specs.Steps.{CanEnd, Ended};
 
 // What a walk carries along: the operations not yet reached, those reached, and the uses ended.
 pub struct Walked {
@@ -428,4 +438,370 @@ pub fn region_verdict(m: &[u32], l: Layout, number: u32) -> Answer
         return Answer::Refused(9);
     };
     verify_region(m, l, p)
+}
+
+// Whether the places and kinds are the same.
+fn is_it(k: usize, p: usize, j: usize, q: usize) -> bool
+    ensures { λ r. ⌜ Says r ((j ≡ k) × (q ≡ p)) ⌝ }
+{
+    if j != k {
+        return false;
+    }
+    q == p
+}
+
+// What the thing of the kind `j` at the place `q` lies in.
+fn parent(m: &[u32], l: Layout, j: usize, q: usize) -> usize
+    requires { ⌜ SoundStore l (now m) × (j ≤ 2) × Live (stateOf l (now m)) (kindOf j, q) ⌝ }
+    ensures { λ r. ⌜ ParentIs l j q (now (m .entry)) r ⌝ }
+{
+    if j == 0 {
+        return context::home_of(m, l, 4, q);
+    }
+    if j == 1 {
+        return context::home_of(m, l, 5, q);
+    }
+    context::home_of(m, l, 3, q)
+}
+
+fn outer_kind(j: usize) -> usize
+    requires { ⌜ j ≤ 2 ⌝ }
+    ensures { λ r. ⌜ r ≡ outerCode j ⌝ }
+{
+    if j == 2 {
+        return 0;
+    }
+    j + 1
+}
+
+// Whether the thing of the kind `j` at `q` is the one of the kind `k` at `p` or lies in it, by fewer than `n` steps.
+fn lies_in(m: &[u32], l: Layout, k: usize, p: usize, j: usize, q: usize, n: usize) -> bool
+    requires { ⌜ SoundStore l (now m) × (k ≤ 2) ⌝ }
+    requires { ⌜ (j ≤ 2) × Live (stateOf l (now m)) (kindOf j, q) ⌝ }
+    ensures { λ r. ⌜ Says r (0 < count Thing-dec (kindOf j, q) (within (stateOf l (now (m .entry))) n (kindOf k, p))) ⌝ }
+{
+    let mut a = j;
+    let mut c = q;
+    let mut i = n;
+    while i != 0 {
+        let g = is_it(k, p, a, c);
+        if g {
+            return true;
+        }
+        let h = parent(m, l, a, c);
+        if h == 0 {
+            return false;
+        }
+        c = h - 1;
+        a = outer_kind(a);
+        i -= 1;
+    }
+    false
+}
+
+// A depth that reaches all: as many steps as things live.
+fn depth(m: &[u32], l: Layout) -> usize
+    requires { ⌜ SoundStore l (now m) ⌝ }
+    ensures { λ r. ⌜ DepthIs l (now (m .entry)) r ⌝ }
+{
+    let a = context::live_count(m, l, 0);
+    let b = context::live_count(m, l, 1);
+    let c = context::live_count(m, l, 2);
+    let d = context::live_count(m, l, 3);
+    let e = context::live_count(m, l, 4);
+    a + b + c + d + e + 1
+}
+
+// The mark of the operation at `o`: 1 where it lies in the thing, and else 0.
+fn mark_of(m: &[u32], l: Layout, k: usize, p: usize, n: usize, o: usize) -> u32
+    requires { ⌜ SoundStore l (now m) × (k ≤ 2) ⌝ }
+    requires { ⌜ DepthIs l (now m) n ⌝ }
+    requires { ⌜ Live (stateOf l (now m)) (op, o) ⌝ }
+    ensures { λ r. ⌜ MarkIs l (kindOf k, p) o (now (m .entry)) r ⌝ }
+{
+    let g = lies_in(m, l, k, p, 0, o, n);
+    if g {
+        return 1;
+    }
+    0
+}
+
+// The operations in the thing get a mark, the other live ones none.
+fn mark_inside(m: &[u32], l: Layout, s: &mut [u32], k: usize, p: usize, n: usize)
+    requires { ⌜ Testable l k p (now m) (now s) ⌝ }
+    requires { ⌜ DepthIs l (now m) n ⌝ }
+    ensures { λ _. ⌜ Marked l (kindOf k, p) (now (m .entry)) (now (s .exit)) ⌝ }
+{
+    let t = context::live_count(m, l, 0);
+    let mut i = 0;
+    while i < t {
+        let o = context::nth_live(m, l, 0, i);
+        let v = mark_of(m, l, k, p, n, o);
+        s[o] = v;
+        i += 1;
+    }
+}
+
+// Whether the use's definition is one of the thing's, or of what lies in it by fewer than `n` steps.
+fn uses_inside(m: &[u32], l: Layout, k: usize, p: usize, n: usize, u: usize) -> bool
+    requires { ⌜ SoundStore l (now m) × (k ≤ 2) ⌝ }
+    requires { ⌜ Live (stateOf l (now m)) (usg, u) ⌝ }
+    ensures { λ r. ⌜ Says r (0 < usesOf (stateOf l (now (m .entry))) (within (stateOf l (now (m .entry))) n (kindOf k, p)) u) ⌝ }
+{
+    let d = context::home_of(m, l, 1, u);
+    if l.values < d {
+        return lies_in(m, l, k, p, 1, d - 1 - l.values, n);
+    }
+    let o = context::home_of(m, l, 2, d - 1);
+    if l.ops < o {
+        return lies_in(m, l, k, p, 1, o - 1 - l.ops, n);
+    }
+    lies_in(m, l, k, p, 0, o - 1, n)
+}
+
+// Whether the use stands outside, and its definition inside.
+fn stray_use(m: &[u32], l: Layout, s: &[u32], k: usize, p: usize, n: usize, u: usize) -> bool
+    requires { ⌜ SoundStore l (now m) × (k ≤ 2) × (l .ops ≤ length (now s)) ⌝ }
+    requires { ⌜ Live (stateOf l (now m)) (usg, u) ⌝ }
+    ensures { λ r. ⌜ Says r (0 < strayUse (stateOf l (now (m .entry))) (marksIn (now (s .entry))) (within (stateOf l (now (m .entry))) n (kindOf k, p)) u) ⌝ }
+{
+    let o = user_of(m, l, u);
+    let v = s[o];
+    if v != 0 {
+        return false;
+    }
+    uses_inside(m, l, k, p, n, u)
+}
+
+// Whether anything that lies in the thing by fewer than `n` steps is used from outside: one loop over the live uses.
+fn used_outside(m: &[u32], l: Layout, s: &[u32], k: usize, p: usize, n: usize) -> bool
+    requires { ⌜ SoundStore l (now m) × (k ≤ 2) × (l .ops ≤ length (now s)) ⌝ }
+    requires { ⌜ Live (stateOf l (now m)) (kindOf k, p) ⌝ }
+    ensures { λ r. ⌜ Says r (0 < sum (strays (stateOf l (now (m .entry))) (marksIn (now (s .entry)))) (within (stateOf l (now (m .entry))) n (kindOf k, p))) ⌝ }
+{
+    let t = context::live_count(m, l, 4);
+    let mut i = 0;
+    while i < t {
+        let u = context::nth_live(m, l, 4, i);
+        let g = stray_use(m, l, s, k, p, n, u);
+        if g {
+            return true;
+        }
+        i += 1;
+    }
+    false
+}
+
+// 13, 14 or 0, by the marks.
+fn test_marked(m: &[u32], l: Layout, s: &[u32], k: usize, p: usize, n: usize, deep: usize) -> u32
+    requires { ⌜ Testable l k p (now m) (now s) ⌝ }
+    requires { ⌜ DepthIs l (now m) deep ⌝ }
+    ensures { λ r. ⌜ r ≡ eraseCode (stateOf l (now (m .entry))) (marksIn (now (s .entry))) n (kindOf k, p) ⌝ }
+{
+    let a = used_outside(m, l, s, k, p, n);
+    if a {
+        return 13;
+    }
+    let b = used_outside(m, l, s, k, p, deep);
+    if b {
+        return 14;
+    }
+    0
+}
+
+// The scratch becomes 0.
+fn clear_marks(s: &mut [u32])
+    ensures { λ _. ⌜ Zeros (now (s .exit)) ⌝ }
+{
+    let mut i = 0;
+    while i < s.len() {
+        s[i] = 0;
+        i += 1;
+    }
+}
+
+// What refuses that the thing of the kind `k` at `p` is erased: 13 for what lies in it by fewer than `n` steps, 14 for all in it; and else 0.
+fn erase_refusal(m: &[u32], l: Layout, s: &mut [u32], k: usize, p: usize, n: usize) -> u32
+    requires { ⌜ Testable l k p (now m) (now s) ⌝ }
+    ensures { λ r. ⌜ Tested l (kindOf k, p) n (now (m .entry)) (now (s .entry)) (now (s .exit)) r ⌝ }
+{
+    let deep = depth(m, l);
+    mark_inside(m, l, s, k, p, deep);
+    let r = test_marked(m, l, s, k, p, n, deep);
+    clear_marks(s);
+    r
+}
+
+// The values of the list `c` end, the first one first.
+fn end_values(m: &mut [u32], l: Layout, c: usize)
+    requires { ⌜ CanEndValues l c (now m) ⌝ }
+    ensures { λ _. ⌜ EndedValues l c (now (m .entry)) (now (m .exit)) ⌝ }
+{
+    let mut k = context::first_of(m, l, 2, c);
+    while k != 0 {
+        context::end_value(m, l, k - 1);
+        k = context::first_of(m, l, 2, c);
+    }
+}
+
+// The results of an operation and the arguments of a block end; a region has none.
+fn end_own(m: &mut [u32], l: Layout, k: usize, p: usize)
+    requires { ⌜ k ≤ 2 ⌝ }
+    requires { ⌜ CanErase l (kindOf k, p) (now m) ⌝ }
+    ensures { λ _. ⌜ OwnEnded l (kindOf k, p) (now (m .entry)) (now (m .exit)) ⌝ }
+{
+    if k == 0 {
+        end_values(m, l, p);
+        return;
+    }
+    if k == 1 {
+        end_values(m, l, l.ops + p);
+        return;
+    }
+}
+
+// The first thing that lies in the one of the kind `k` at `p`.
+fn first_child(m: &[u32], l: Layout, k: usize, p: usize) -> usize
+    requires { ⌜ SoundStore l (now m) × (k ≤ 2) × Live (stateOf l (now m)) (kindOf k, p) ⌝ }
+    ensures { λ r. ⌜ ChildIs l (kindOf k, p) (now (m .entry)) r ⌝ }
+{
+    if k == 0 {
+        return context::first_of(m, l, 3, p);
+    }
+    if k == 1 {
+        return context::first_of(m, l, 4, p);
+    }
+    context::first_of(m, l, 5, p)
+}
+
+fn inner_kind(k: usize) -> usize
+    requires { ⌜ k ≤ 2 ⌝ }
+    ensures { λ r. ⌜ r ≡ innerCode k ⌝ }
+{
+    if k == 0 {
+        return 2;
+    }
+    k - 1
+}
+
+// The thing itself ends.
+fn end_thing(m: &mut [u32], l: Layout, k: usize, p: usize)
+    requires { ⌜ SoundStore l (now m) × (k ≤ 2) ⌝ }
+    requires { ⌜ CanEnd (stateOf l (now m)) (kindOf k, p) ⌝ }
+    ensures { λ _. ⌜ Ended l (kindOf k, p) (now (m .entry)) (now (m .exit)) ⌝ }
+{
+    if k == 0 {
+        context::end_operation(m, l, p);
+        return;
+    }
+    if k == 1 {
+        context::end_block(m, l, p);
+        return;
+    }
+    context::end_region(m, l, p);
+}
+
+// The thing of the kind `k` at `p` ends, with all that lies in it: its values, then what lies in it, then itself.
+pub fn erase_inside(m: &mut [u32], l: Layout, k: usize, p: usize)
+    requires { ⌜ k ≤ 2 ⌝ }
+    requires { ⌜ CanErase l (kindOf k, p) (now m) ⌝ }
+    ensures { λ _. ⌜ Erased l (kindOf k, p) (now (m .entry)) (now (m .exit)) ⌝ }
+{
+    end_own(m, l, k, p);
+    let j = inner_kind(k);
+    let mut c = first_child(m, l, k, p);
+    while c != 0 {
+        erase_inside(m, l, j, c - 1);
+        c = first_child(m, l, k, p);
+    }
+    end_thing(m, l, k, p);
+}
+
+// All uses in the thing of the kind `k` at `p` end.
+fn drop_inside(m: &mut [u32], l: Layout, k: usize, p: usize, w: Walked) -> Walked
+    requires { ⌜ k ≤ 2 ⌝ }
+    requires { ⌜ CanDrop l (kindOf k, p) w (now m) ⌝ }
+    ensures { λ r. ⌜ Dropped l (kindOf k, p) w (now (m .entry)) (now (m .exit)) r ⌝ }
+{
+    if k == 0 {
+        return drop_operation(m, l, p, w);
+    }
+    if k == 1 {
+        return drop_block(m, l, p, w);
+    }
+    drop_region(m, l, p, w)
+}
+
+// The thing of the kind `k` at `p` is erased, unless what lies in it is used from outside: 13 by fewer than `n` steps, else 14.
+// All tests come before the first store.
+fn erase_found(m: &mut [u32], l: Layout, s: &mut [u32], k: usize, p: usize, n: usize) -> Answer
+    requires { ⌜ Testable l k p (now m) (now s) ⌝ }
+    ensures { λ r. ⌜ EraseAnswer l (kindOf k, p) n (now (m .entry)) (now (m .exit)) r ⌝ }
+    ensures { λ _. ⌜ Scratch l (now (s .exit)) ⌝ }
+{
+    let c = erase_refusal(m, l, s, k, p, n);
+    if c != 0 {
+        return Answer::Refused(c);
+    }
+    let a = context::live_count(m, l, 0);
+    let t = drop_inside(
+        m,
+        l,
+        k,
+        p,
+        Walked {
+            left: a,
+            freed: 0,
+            ended: 0,
+        },
+    );
+    erase_inside(m, l, k, p);
+    Answer::Accepted(t.freed as u32, t.ended as u32)
+}
+
+// Edit 39: the operation with this number is erased. Refused: 7, 13, 14. The scratch is lent with zeros, and has zeros again.
+pub fn erase_operation(m: &mut [u32], l: Layout, s: &mut [u32], number: u32) -> Answer
+    requires { ⌜ SoundStore l (now m) ⌝ }
+    requires { ⌜ Scratch l (now s) ⌝ }
+    ensures { λ r. ⌜ Performed l (erase-operation number) (now (m .entry)) (now (m .exit)) r ⌝ }
+    ensures { λ _. ⌜ Scratch l (now (s .exit)) ⌝ }
+{
+    let f = context::find(m, l, 0, number);
+    let Found::At(o) = f else {
+        return Answer::Refused(7);
+    };
+    erase_found(m, l, s, 0, o, 1)
+}
+
+// Edit 40: the block with this number is erased. Refused: 8, 13, 14.
+pub fn erase_block(m: &mut [u32], l: Layout, s: &mut [u32], number: u32) -> Answer
+    requires { ⌜ SoundStore l (now m) ⌝ }
+    requires { ⌜ Scratch l (now s) ⌝ }
+    ensures { λ r. ⌜ Performed l (erase-block number) (now (m .entry)) (now (m .exit)) r ⌝ }
+    ensures { λ _. ⌜ Scratch l (now (s .exit)) ⌝ }
+{
+    let f = context::find(m, l, 1, number);
+    let Found::At(b) = f else {
+        return Answer::Refused(8);
+    };
+    erase_found(m, l, s, 1, b, 2)
+}
+
+// Edit 41: the region of the operation with this number, at this index, is erased. Refused: 7, 12, 14.
+pub fn erase_region(m: &mut [u32], l: Layout, s: &mut [u32], number: u32, index: usize) -> Answer
+    requires { ⌜ SoundStore l (now m) ⌝ }
+    requires { ⌜ Scratch l (now s) ⌝ }
+    ensures { λ r. ⌜ Performed l (erase-region number index) (now (m .entry)) (now (m .exit)) r ⌝ }
+    ensures { λ _. ⌜ Scratch l (now (s .exit)) ⌝ }
+{
+    let f = context::find(m, l, 0, number);
+    let Found::At(o) = f else {
+        return Answer::Refused(7);
+    };
+    let n = context::row_length(m, l, 3, o);
+    if n <= index {
+        return Answer::Refused(12);
+    }
+    let p = context::nth_of(m, l, 3, o, index);
+    erase_found(m, l, s, 2, p, 0)
 }

@@ -1,5 +1,4 @@
 use Rattle.uses.proofs.Looking.{missing-value, missing-block}
-use borrow.Author.Needs.{needs}
 use Rattle.uses.proofs.missing.Statement.{statement}
 use Rattle.uses.proofs.missing.Tie as tie
 use Rattle.uses.proofs.missing.Reads as reads

@@ -1,9 +1,8 @@
-use mathlib.Core.Path.{refl}
 use mathlib.Core.List.{[], _∷_}
 use native.Mathlib.Omega.{arith}
 use Rattle.edit.specs.Record.{move-use}
 use Rattle.rules.specs.Refusal.{definition-named}
-use Rattle.uses.specs.Look.{slotBy, SlotAt, DefAt}
+use Rattle.uses.specs.Look.{slotBy}
 use Rattle.uses.proofs.Looking.{def-at, def-none, names-move}
 use Rattle.uses.proofs.Moving.{use-live, lost-this, lost-other, stays, no-use, elsewhere, can-move, moved}
 use Rattle.places.specs.Store.{usg}

@@ -1,4 +1,3 @@
-use native.Mathlib.Omega.{arith}
 use Rattle.places.specs.Store.{usg}
 use Rattle.context.proofs.Places.{place<}
 use Rattle.uses.proofs.Moving.{use-live}

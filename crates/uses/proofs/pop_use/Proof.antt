@@ -1,10 +1,9 @@
 use Prim.Native.Nat.{_-_}
 use mathlib.Core.Path.{refl}
-use mathlib.Core.List.{[], _∷_}
+use mathlib.Core.List.{[]}
 use native.Mathlib.Omega.{arith}
 use Rattle.edit.specs.Record.{pop-use}
-use Rattle.rules.specs.Refusal.{definition-named}
-use Rattle.uses.specs.Look.{slotBy, SlotAt, DefAt}
+use Rattle.uses.specs.Look.{slotBy}
 use Rattle.uses.proofs.Looking.{slot-at, slot-none, names-pop}
 use Rattle.uses.proofs.Growing.{lost-op}
 use Rattle.uses.proofs.Taking.{pop-refused, popped}

@@ -1,10 +1,7 @@
-use Prim.Native.Nat.{_-_}
-use mathlib.Core.Path.{refl}
-use mathlib.Core.List.{[], _∷_}
+use mathlib.Core.List.{[]}
 use native.Mathlib.Omega.{arith}
 use Rattle.edit.specs.Record.{remove-use}
-use Rattle.rules.specs.Refusal.{definition-named}
-use Rattle.uses.specs.Look.{slotBy, SlotAt, DefAt}
+use Rattle.uses.specs.Look.{slotBy}
 use Rattle.uses.proofs.Looking.{slot-at, slot-none, names-remove}
 use Rattle.uses.proofs.Growing.{lost-op}
 use Rattle.uses.proofs.Taking.{remove-refused, removed}

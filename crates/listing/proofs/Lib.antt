@@ -1,0 +1,5 @@
+pub mod Writing
+pub mod Rows
+pub mod Uses
+pub mod Texts
+pub mod Nodes

@@ -1,0 +1,2 @@
+-- The uses of a definition, handed to a reader. Assumes nothing.
+pub mod UsesOf

@@ -1,0 +1,11 @@
+pub mod Spots
+pub mod Seen
+pub mod Beside
+pub mod Neighbours
+pub mod Alike
+pub mod Demand3
+pub mod Turns
+pub mod Written
+pub mod Running
+pub mod Judging
+pub mod Cleared

@@ -1,0 +1,4 @@
+pub mod See
+pub mod Calls
+pub mod Runs
+pub mod Records

@@ -1,0 +1,79 @@
+//! The static library's interface. If its crate declares something else, only this file has to follow.
+//! A slice is a pointer and a count of elements. Each call is wrapped once, over Rust slices.
+
+mod library {
+    unsafe extern "C" {
+        pub fn recipe_start(store: *mut u32, store_len: usize, ops: u32, blocks: u32, regions: u32, values: u32, uses: u32) -> u32;
+        pub fn recipe_edit(
+            store: *mut u32,
+            store_len: usize,
+            scratch: *mut u32,
+            scratch_len: usize,
+            record: *const u8,
+            record_len: usize,
+            answer: *mut u32,
+            answer_len: usize,
+        );
+        pub fn recipe_script(
+            store: *mut u32,
+            store_len: usize,
+            scratch: *mut u32,
+            scratch_len: usize,
+            script: *const u8,
+            script_len: usize,
+            answers: *mut u32,
+            answers_len: usize,
+            out: *mut u32,
+            out_len: usize,
+        );
+        pub fn recipe_check(store: *const u32, store_len: usize) -> u32;
+        pub fn recipe_listing(store: *const u32, store_len: usize, answers: *const u32, answers_len: usize, out: *mut u8, out_len: usize) -> usize;
+    }
+}
+
+/// 0, or refusal 5.
+pub fn start(store: &mut [u32], [ops, blocks, regions, values, uses]: [u32; 5]) -> u32 {
+    unsafe { library::recipe_start(store.as_mut_ptr(), store.len(), ops, blocks, regions, values, uses) }
+}
+
+/// One edit: its answer.
+pub fn edit(store: &mut [u32], scratch: &mut [u32], record: &[u8]) -> [u32; 3] {
+    let mut answer = [u32::MAX; 3];
+    let (s, n) = (store.as_mut_ptr(), store.len());
+    unsafe { library::recipe_edit(s, n, scratch.as_mut_ptr(), scratch.len(), record.as_ptr(), record.len(), answer.as_mut_ptr(), 3) };
+    answer
+}
+
+/// A script: 0 or what ended it, and the count of answers written.
+pub fn script(store: &mut [u32], scratch: &mut [u32], script: &[u8], answers: &mut [u32]) -> [u32; 2] {
+    let mut out = [u32::MAX; 2];
+    let (s, n) = (store.as_mut_ptr(), store.len());
+    unsafe {
+        library::recipe_script(
+            s,
+            n,
+            scratch.as_mut_ptr(),
+            scratch.len(),
+            script.as_ptr(),
+            script.len(),
+            answers.as_mut_ptr(),
+            answers.len(),
+            out.as_mut_ptr(),
+            2,
+        )
+    };
+    out
+}
+
+pub fn is_sound(store: &[u32]) -> bool {
+    match unsafe { library::recipe_check(store.as_ptr(), store.len()) } {
+        0 => false,
+        1 => true,
+        n => panic!("the check says {n}"),
+    }
+}
+
+/// The listing of a store after these answers, written to the front of `out`: its length.
+pub fn listing(store: &[u32], answers: &[u32], out: &mut [u8]) -> usize {
+    unsafe { library::recipe_listing(store.as_ptr(), store.len(), answers.as_ptr(), answers.len(), out.as_mut_ptr(), out.len()) }
+}

@@ -1,0 +1,1 @@
+use crate::standins::names::get_name_from_attr_map;

@@ -1,0 +1,3 @@
+pub mod htable {
+    pub use crate::standins::htable::*;
+}

@@ -1,0 +1,1 @@
+use crate::standins::names::remove_name_from_attr_map;

@@ -17,7 +17,7 @@ judge-requires : tie.Need-judge-requires
 judge-requires c κs =
     let b = c .before .before .before .before .before .before .before .before .before in
     let k = c .before .before .before .read2 in
-    (b .pre .0, (c .before .before .before .before .before .read-record .ensures .passed (k .given .0 .0) (k .given .1), b .pre .1))
+    (b .pre, c .before .before .before .before .before .read-record .ensures .passed (k .given .0 .0) (k .given .1))
 
 returns : tie.Need-returns
 returns c =

@@ -33,7 +33,7 @@ returns c =
     edited-more (b .args .bytes .now) (r .result) (r .ensures) (b .args .store .now) (b .args .scratch .now) _ (c .before .before .before .before .before .before .before .clear .ensures) (n .given .0 .0) (n .given .1) (omega arith)
 
 answer-requires : tie.Need-answer-requires
-answer-requires c κs = (zeros-again _ (length (c .before .before .before .before .before .before .before .before .before .before .before .before .before .before .args .scratch .now)) (c .before .before .before .before .before .before .before .before .before .clear .ensures), c .before .before .before .before .before .before .before .before .before .before .before .before .before .before .pre)
+answer-requires c κs = zeros-again _ (length (c .before .before .before .before .before .before .before .before .before .before .before .before .before .before .args .scratch .now)) (c .before .before .before .before .before .before .before .before .before .clear .ensures)
 
 same-length-2 : tie.Need-same-length-2
 same-length-2 c = search needs

@@ -17,7 +17,7 @@ perform-requires c κs =
     let b = c .before .before .before .before .before .before .before .before .before in
     let r = c .before .before .before .before .before .read-record in
     let k = c .before .before .before .read2 in
-    (b .pre .0, (b .pre .1 .0, (r .ensures .passed (k .given .0 .0) (k .given .1), b .pre .1 .1)))
+    (b .pre .0, (b .pre .1, r .ensures .passed (k .given .0 .0) (k .given .1)))
 
 returns : tie.Need-returns
 returns c =

@@ -29,7 +29,7 @@ record-step-requires : tie.Need-record-step-requires Inv-loop μ-loop
 record-step-requires c κs =
     let b = c .before .before .before .before .before .before .before .before .before in
     let p = c .before .before .before .before .loop in
-    (p .inv .0 .sound, (subst (Scratch (b .args .l)) (sym (p .inv .1 .0)) (b .pre .1 .0), (omega arith, (omega (arith, p .inv .0 .room, same-room (p .inv .0)), b .pre .1 .1))))
+    (p .inv .0 .sound, (subst (Scratch (b .args .l)) (sym (p .inv .1 .0)) (b .pre .1), (omega arith, omega (arith, p .inv .0 .room, same-room (p .inv .0)))))
 
 enum-known-step : tie.Need-enum-known-step Inv-loop μ-loop
 enum-known-step c = search needs

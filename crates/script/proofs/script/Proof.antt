@@ -45,7 +45,7 @@ run-records-requires : tie.Need-run-records-requires
 run-records-requires c κs =
     let b = c .before .before .before .before .before .before .before .before .before .before .before .before .before .before .before .before .before .before in
     let S = says-yes (c .before .before .before .before .before .before .before .before .check .result) (SoundWords (b .args .store .now)) (c .before .before .before .before .before .before .before .if1 .left) (c .before .before .before .before .before .before .before .before .check .ensures) in
-    (sound-by (b .args .store .now) (c .before .before .before .before .before .layout-of .ensures) S, (scratch-by (omega arith) (zeros-again _ (length (b .args .scratch .now)) (c .before .before .before .before .before .before .before .before .before .before .before .before .clear .ensures)), b .pre))
+    (sound-by (b .args .store .now) (c .before .before .before .before .before .layout-of .ensures) S, (scratch-by (omega arith) (zeros-again _ (length (b .args .scratch .now)) (c .before .before .before .before .before .before .before .before .before .before .before .before .clear .ensures))))
 
 same-length-5 : tie.Need-same-length-5
 same-length-5 c = search needs

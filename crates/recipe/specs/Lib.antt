@@ -1,0 +1,2 @@
+-- The program over the store. Assumes nothing.
+pub mod Program

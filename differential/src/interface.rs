@@ -13,7 +13,7 @@ mod library {
             record_len: usize,
             answer: *mut u32,
             answer_len: usize,
-        );
+        ) -> u32;
         pub fn recipe_script(
             store: *mut u32,
             store_len: usize,
@@ -23,10 +23,9 @@ mod library {
             script_len: usize,
             answers: *mut u32,
             answers_len: usize,
-            out: *mut u32,
-            out_len: usize,
-        );
-        pub fn recipe_check(store: *const u32, store_len: usize) -> u32;
+            count: *mut u64,
+        ) -> u32;
+        pub fn recipe_check(store: *const u32, store_len: usize) -> bool;
         pub fn recipe_listing(store: *const u32, store_len: usize, answers: *const u32, answers_len: usize, out: *mut u8, out_len: usize) -> usize;
     }
 }
@@ -40,15 +39,16 @@ pub fn start(store: &mut [u32], [ops, blocks, regions, values, uses]: [u32; 5]) 
 pub fn edit(store: &mut [u32], scratch: &mut [u32], record: &[u8]) -> [u32; 3] {
     let mut answer = [u32::MAX; 3];
     let (s, n) = (store.as_mut_ptr(), store.len());
-    unsafe { library::recipe_edit(s, n, scratch.as_mut_ptr(), scratch.len(), record.as_ptr(), record.len(), answer.as_mut_ptr(), 3) };
+    let code = unsafe { library::recipe_edit(s, n, scratch.as_mut_ptr(), scratch.len(), record.as_ptr(), record.len(), answer.as_mut_ptr(), 3) };
+    assert_eq!(code, answer[0]);
     answer
 }
 
 /// A script: 0 or what ended it, and the count of answers written.
 pub fn script(store: &mut [u32], scratch: &mut [u32], script: &[u8], answers: &mut [u32]) -> [u32; 2] {
-    let mut out = [u32::MAX; 2];
+    let mut count = u64::MAX;
     let (s, n) = (store.as_mut_ptr(), store.len());
-    unsafe {
+    let code = unsafe {
         library::recipe_script(
             s,
             n,
@@ -58,19 +58,14 @@ pub fn script(store: &mut [u32], scratch: &mut [u32], script: &[u8], answers: &m
             script.len(),
             answers.as_mut_ptr(),
             answers.len(),
-            out.as_mut_ptr(),
-            2,
+            &mut count,
         )
     };
-    out
+    [code, u32::try_from(count).expect("a count of answers")]
 }
 
 pub fn is_sound(store: &[u32]) -> bool {
-    match unsafe { library::recipe_check(store.as_ptr(), store.len()) } {
-        0 => false,
-        1 => true,
-        n => panic!("the check says {n}"),
-    }
+    unsafe { library::recipe_check(store.as_ptr(), store.len()) }
 }
 
 /// The listing of a store after these answers, written to the front of `out`: its length.

@@ -1,0 +1,27 @@
+/* The recipe store: the functions of target/staticlib/libffi.a (made by `rt staticlib ffi`).
+   A slice is a pointer and a count of elements. All memory is the caller's; nothing is allocated and nothing is kept between calls.
+   Two calls must not use one buffer at the same time. docs/FORMAT.md says what records, answers and refusals mean. */
+#ifndef RECIPE_STORE_H
+#define RECIPE_STORE_H
+#include <stdbool.h>
+#include <stddef.h>
+#include <stdint.h>
+
+/* Starts an empty store: 0, or 5 where a capacity is 0 or over its limit, or the buffer is too short. */
+uint32_t recipe_start(uint32_t *store, size_t store_len, uint32_t ops, uint32_t blocks, uint32_t regions, uint32_t values, uint32_t uses);
+
+/* One edit record. `answer` gets its three numbers (refusal, A, B); the refusal is returned too. 22 if `answer` has under 3 words. */
+uint32_t recipe_edit(uint32_t *store, size_t store_len, uint32_t *scratch, size_t scratch_len,
+                     const uint8_t *record, size_t record_len, uint32_t *answer, size_t answer_len);
+
+/* A script of records: 0, or the 6 or 22 that ended it. `answers` gets three words for each answer, `count` how many there are. */
+uint32_t recipe_script(uint32_t *store, size_t store_len, uint32_t *scratch, size_t scratch_len,
+                       const uint8_t *script, size_t script_len, uint32_t *answers, size_t answers_len, uint64_t *count);
+
+/* Whether a buffer of any contents is a sound store. */
+bool recipe_check(const uint32_t *store, size_t store_len);
+
+/* The listing of the answers and of the store, as far as `out` has room: its length; 0 if the store is not sound. */
+size_t recipe_listing(const uint32_t *store, size_t store_len, const uint32_t *answers, size_t answers_len, uint8_t *out, size_t out_len);
+
+#endif

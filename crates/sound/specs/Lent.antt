@@ -48,7 +48,7 @@ pub record FamiliesBy (o b r v u xs xu xv xr xo xb xf : ℕ) (m : List ℕ) : Ty
   pub ops : Linked b o (part xo xb m)
   pub blocks : Linked r b (part xb xf m)
 
--- what document 01 does not ask: the flags and types of free places are 0
+-- canonical cells: the flags and types of free places are 0
 pub record BlanksBy (o v av xf xt xe : ℕ) (m : List ℕ) : Type 0 where
   pub flags : Blank o (tableAt 5 o m) (part xf xt m)
   pub types : Blank v (tableAt av v m) (part xt xe m)

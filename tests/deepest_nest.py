@@ -1,5 +1,5 @@
 #!/usr/bin/env python3
-"""The deepest nest at the largest capacities: built, judged, dropped and erased through the static library.
+"""A nest one level short of the deepest at the largest capacities: built, judged, dropped and erased through the static library.
 
   rt staticlib ffi && tests/deepest_nest.py            (needs gcc)
   (ulimit -s 1024; tests/deepest_nest.py)              with 1 MiB of stack

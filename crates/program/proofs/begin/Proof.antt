@@ -1,7 +1,7 @@
-use Rattle.recipe.proofs.Printing.{begun}
+use Rattle.program.proofs.Printing.{begun}
 use borrow.Author.Needs.{needs}
-use Rattle.recipe.proofs.begin.Statement.{statement}
-use Rattle.recipe.proofs.begin.Tie as tie
+use Rattle.program.proofs.begin.Statement.{statement}
+use Rattle.program.proofs.begin.Tie as tie
 
 start-requires : tie.Need-start-requires
 start-requires c κs = search needs

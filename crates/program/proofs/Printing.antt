@@ -22,8 +22,8 @@ use Rattle.script.specs.Calls.{flat, RanOn, Scripted}
 use Rattle.listing.specs.Writer.{Written}
 use Rattle.listing.specs.Lines.{repliesFrom}
 use Rattle.listing.proofs.Writing.{and-then, same-text}
-use Rattle.recipe.specs.Program.{capacities, Begun}
-use Rattle.recipe.proofs.Replies.{read-back}
+use Rattle.program.specs.Program.{capacities, Begun}
+use Rattle.program.proofs.Replies.{read-back}
 
 pub begun : {m m′ : List ℕ} {r : ℕ} → length m ≡ 9135 → StartIs capacities m m′ r → Begun capacities m′
 unfolding startCode arena rules.program-capacities decLt

@@ -1,8 +1,8 @@
 use mathlib.Core.Path.{sym}
 use lib.Seq.{length-take-le}
 use borrow.Author.Needs.{needs}
-use Rattle.recipe.proofs.main.Statement.{statement}
-use Rattle.recipe.proofs.main.Tie as tie
+use Rattle.program.proofs.run_input.Statement.{statement}
+use Rattle.program.proofs.run_input.Tie as tie
 
 slice-aggregate-read-full : tie.Need-slice-aggregate-read-full
 slice-aggregate-read-full c = search needs
@@ -40,8 +40,8 @@ write-all-requires c κs = search needs
 returns : tie.Need-returns
 returns c = search needs
 
-pub main-spec : {M : Type 1} → statement M
-main-spec =
+pub run-input-spec : {M : Type 1} → statement M
+run-input-spec =
     tie.close
     (tie.spec
     slice-aggregate-read-full

@@ -1,7 +1,7 @@
-use Rattle.recipe.proofs.Printing.{too-long, not-long}
+use Rattle.program.proofs.Printing.{too-long, not-long}
 use borrow.Author.Needs.{needs}
-use Rattle.recipe.proofs.print.Statement.{statement}
-use Rattle.recipe.proofs.print.Tie as tie
+use Rattle.program.proofs.print.Statement.{statement}
+use Rattle.program.proofs.print.Tie as tie
 
 slice-aggregate-put-text : tie.Need-slice-aggregate-put-text
 slice-aggregate-put-text c = search needs

@@ -1,9 +1,9 @@
-use Rattle.recipe.proofs.Printing.{after, room, printed-is}
+use Rattle.program.proofs.Printing.{after, room, printed-is}
 use Prim.Native.Nat.{ℕ}
 use lib.ListN.{length-replicate}
 use borrow.Author.Needs.{needs}
-use Rattle.recipe.proofs.run.Statement.{statement}
-use Rattle.recipe.proofs.run.Tie as tie
+use Rattle.program.proofs.run.Statement.{statement}
+use Rattle.program.proofs.run.Tie as tie
 
 slice-aggregate-begin : tie.Need-slice-aggregate-begin
 slice-aggregate-begin c = search needs

@@ -1,16 +1,15 @@
 -- Each step keeps a store linked. Assumes nothing.
 use mathlib.Core.Path.{_≡_, refl, sym, ap, _∙_, subst}
-use mathlib.Core.Logic.{_≢_, _↔_, ite, if-pos, if-neg, by-cases, _⊎_, inl, inr, ⊎-elim}
-use mathlib.Core.HLevel.{Discrete}
-use mathlib.Core.List.{List, [], _∷_, _++_, map}
+use mathlib.Core.Logic.{_≢_, by-cases, _⊎_, inl, inr, ⊎-elim}
+use mathlib.Core.List.{List, [], _∷_, _++_}
 use mathlib.Core.Option.{Option, none, some}
 use native.Mathlib.Decide.{ℕ-discrete}
 use native.Mathlib.Omega.{arith}
-use Prim.Native.Nat.{ℕ, zero, suc, _+_, _<_, _≤_}
+use Prim.Native.Nat.{ℕ, suc, _+_, _<_, _≤_}
 use lib.ListN.{length}
-use Rattle.seqs.specs.Seqs.{upd, tick, insertAt, count, withoutBy, without, In, Rises}
+use Rattle.seqs.specs.Seqs.{upd, tick, insertAt, count, without, In}
 use Rattle.places.specs.Store.{Kind, op, Role, Fam, Kind-dec, Role-dec, Fam-dec, fam, nodeOf, holderOf, Limited, Thing, Thing-dec, Con, Con-dec, Table, State, alive, Live, Tab, owns, Link, nest, outer, upBy, up, Ends, Clear, Linked, born, gone, birth, end, setList, setOwn, relink, enter, leave}
-use Rattle.seqs.proofs.Base.{upd-image, upd-self, count-insertAt, length-insertAt, count-leaves, length-less, in-head, upd-at, upd-same, upd-other, upd2-same, upd2-cases, upd2-other, tick-yes, tick-no, tick-pos, count-append, count-gone, count-stays, rises-inj, rises-once, rises-on, rises-snoc, rises-without, count-less}
+use Rattle.seqs.proofs.Base.{upd-image, upd-self, count-insertAt, length-insertAt, count-leaves, length-less, in-head, upd-at, upd-same, upd-other, upd2-same, upd2-cases, tick-yes, tick-no, tick-pos, count-append, count-gone, count-stays, rises-on, rises-snoc, rises-without, count-less}
 
 -- ---- climbing
 
@@ -410,10 +409,6 @@ module _ (P : State) (c : Con) (x : Thing) where
   unfolding leave relink setOwn setList
   list-left = upd2-same Thing-dec Role-dec (P .list) (c .1) (c .0) (without Thing-dec x (P .list (c .1) (c .0)))
 
-  pub list-enter-other : (i : ℕ) (b : Thing) (r : Role) → r ≢ c .0 → enter c i x P .list b r ≡ P .list b r
-  unfolding enter
-  list-enter-other i b r n = ⊎-elim (λ h. absurd (n (h .1))) (λ h. h .1) (lists P c (insertAt i x (P .list (c .1) (c .0))) x (some c) b r)
-
   pub list-leave-other : (b : Thing) (r : Role) → r ≢ c .0 → leave c x P .list b r ≡ P .list b r
   unfolding leave
   list-leave-other b r n = ⊎-elim (λ h. absurd (n (h .1))) (λ h. h .1) (lists P c (without Thing-dec x (P .list (c .1) (c .0))) x none b r)
@@ -422,11 +417,3 @@ module _ (P : State) (c : Con) (x : Thing) where
 pub cap-end : (P : State) (a : Thing) (k : Kind) → end a P .tab k .cap ≡ P .tab k .cap
 unfolding end
 cap-end P a k = upd-image Kind-dec (λ _ (u : Table). u .cap) (P .tab) (a .0) (gone (a .1) (P .tab (a .0))) (P .tab (a .0) .cap) refl k ∙ upd-self Kind-dec (λ j. P .tab j .cap) (a .0) (P .tab (a .0) .cap) refl k
-
--- for the check: owners and lists that name each other, no list naming a thing twice, are held
-pub held-of : (P : State) → ((r : Role) (c x : Thing) → count Thing-dec x (P .list c r) ≤ 1) → ((r : Role) (c x : Thing) → In Thing-dec x (P .list c r) → P .own x (fam r) ≡ some (r, c))
-    → ((r : Role) (c x : Thing) → P .own x (fam r) ≡ some (r, c) → In Thing-dec x (P .list c r)) → (r : Role) (c x : Thing) → count Thing-dec x (P .list c r) ≡ owns (P .own x (fam r)) (r, c)
-held-of P one to back r c x =
-    by-cases (ℕ-discrete (owns (P .own x (fam r)) (r, c)) 0)
-    (λ z. by-cases (ℕ-discrete (count Thing-dec x (P .list c r)) 0) (λ y. y ∙ sym z) (λ y. absurd (omega (arith, owns-own (r, c), ap (λ (o : Option Con). owns o (r, c)) (to r c x (omega arith))))))
-    (λ n. let e : P .own x (fam r) ≡ some (r, c) = owns-some (P .own x (fam r)) (r, c) (omega arith) in rw (e, owns-own) (omega (arith, one r c x, back r c x e)))

@@ -8,7 +8,8 @@ use Prim.Native.Nat.{ℕ}
 use Rattle.places.specs.Store.{Kind, usg, fam, Thing, Thing-dec, Con, State, alive, Live, Link, Linked, UseHeld, Sound, end, leave, relink, setOwn, setList}
 use Rattle.places.specs.View.{num, named, namedC, view, amend, setHome, nEnd, nLeave}
 use Rattle.places.specs.Edits.{endUse, nEndUse}
-use Rattle.places.proofs.Steps.{Bare, end-linked, leave-ok, alive-end, alive-ended, alive-leave, own-left, own-leave-fam, own-leave-other, bare-of, list-left, list-leave-other, cap-end, some-none}
+use Rattle.places.specs.May.{Bare}
+use Rattle.places.proofs.Steps.{end-linked, leave-ok, alive-end, alive-ended, alive-leave, own-left, own-leave-fam, own-leave-other, bare-of, list-left, list-leave-other, cap-end, some-none}
 use Rattle.places.proofs.Sees.{see-end, num-end, see-leave, unhold, end-amend}
 use Rattle.places.proofs.Placing.{Fits, fits, slots≢useSets, placed-but, use-holds-nothing, use-fams}
 

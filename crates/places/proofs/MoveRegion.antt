@@ -9,7 +9,8 @@ use Prim.Native.Nat.{ℕ, _<_}
 use lib.ListN.{length}
 use Rattle.places.specs.Store.{Kind, op, reg, regions, regs, Thing, Thing-dec, Con, State, Live, Link, up, Clear, Linked, Placed, Sound, enter, relink, setOwn, setList}
 use Rattle.places.specs.View.{changeList, num, named, view, amend, setHome, nEnter}
-use Rattle.places.proofs.Steps.{CanEnter, enter-ok, alive-enter, own-entered, own-enter-other}
+use Rattle.places.specs.May.{CanEnter}
+use Rattle.places.proofs.Steps.{enter-ok, alive-enter, own-entered, own-enter-other}
 use Rattle.places.proofs.Sees.{see-enter}
 use Rattle.places.proofs.Placing.{placed-but}
 use Rattle.seqs.specs.Seqs.{swapOut}

@@ -19,7 +19,8 @@ use Rattle.rules.specs.History.{Operation, Block, History, births, plus, bear, 
 use Rattle.rules.specs.Orders.{Orders, containers, new-lists, order, reorder}
 use Rattle.rules.specs.State.{new-types}
 use Rattle.rules.specs.Refusal.{slot-length, values-length}
-use Rattle.places.proofs.Steps.{Fresh, some-none, live-birth, alive-enter}
+use Rattle.places.specs.May.{Fresh}
+use Rattle.places.proofs.Steps.{some-none, live-birth, alive-enter}
 use Rattle.places.proofs.Sees.{num-old, not-new}
 use Rattle.places.proofs.RuleNames.{find-live, find-dead, length-view, values-long, slot-long}
 use Rattle.places.proofs.RuleAccept.{endedOf}

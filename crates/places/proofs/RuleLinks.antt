@@ -23,7 +23,8 @@ use Rattle.rules.specs.History.{History, zeros, births, put-in, container, with
 use Rattle.rules.specs.Orders.{Orders, order, reorder, if-same}
 use Rattle.rules.specs.State.{accept, new-flags, new-types}
 use Rattle.seqs.proofs.Base.{tick-yes, tick-no, in-head, in-tail}
-use Rattle.places.proofs.Steps.{CanEnter, listed}
+use Rattle.places.specs.May.{CanEnter}
+use Rattle.places.proofs.Steps.{listed}
 use Rattle.places.proofs.Sees.{num-inj, listed-inj}
 use Rattle.places.proofs.Whole.{link-sound, link-view, unlink-sound, unlink-view}
 use Rattle.places.proofs.Entries.{cond-ite, tabled-amend, tabled-same, change-on}

@@ -22,7 +22,8 @@ use Rattle.rules.specs.History.{zeros, plus, History, births, bear, carry-out, 
 use Rattle.rules.specs.Orders.{Orders, order, reorder}
 use Rattle.rules.specs.State.{new-flags, new-types, accept}
 use Rattle.seqs.proofs.Base.{map-append}
-use Rattle.places.proofs.Steps.{Fresh, Bare, some-none, once, listed, leave-ok, bare-of, own-left, list-leave-other, alive-ended, alive-end, alive-leave, cap-end}
+use Rattle.places.specs.May.{Fresh, Bare}
+use Rattle.places.proofs.Steps.{some-none, once, listed, leave-ok, bare-of, own-left, list-leave-other, alive-ended, alive-end, alive-leave, cap-end}
 use Rattle.places.proofs.Sees.{num-inj, num-end}
 use Rattle.places.proofs.Extra.{in-at, removeAt-without}
 use Rattle.places.proofs.Whole.{bear-in-sound, bear-in-view, finish-in-sound, finish-in-view}

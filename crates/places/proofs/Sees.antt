@@ -10,7 +10,8 @@ use Rattle.seqs.specs.Seqs.{upd, insertAt, count, withoutBy, without, In}
 use Rattle.places.specs.Store.{Kind, Role, operands, successors, valueUses, blockUses, results, arguments, regions, ops, blocks, Fam, Kind-dec, Role-dec, Fam-dec, fam, Thing, Thing-dec, Con, Table, State, alive, Live, Tab, Link, Linked, born, gone, birth, end, setList, setOwn, relink, enter, leave}
 use Rattle.places.specs.View.{Rec, Names, shown, num, named, namedC, homeBy, recOf, view, amendIn, amend, changeList, setHome, bare, nBirth, nEnd, nEnter, nLeave}
 use Rattle.seqs.proofs.Base.{count-gone, upd-upd, map-insertAt, upd-at, upd-same, upd-other, upd-image, upd-self, map-on, map-append, map-withoutBy, rises-inj}
-use Rattle.places.proofs.Steps.{CanEnter, node-other, home-other, listed, dead-bare, place-differs, Fresh, Bare, thing-eq}
+use Rattle.places.specs.May.{CanEnter, Fresh, Bare}
+use Rattle.places.proofs.Steps.{node-other, home-other, listed, dead-bare, place-differs, thing-eq}
 
 abbrev Tabs : State → Type 0
 Tabs P = (k : Kind) → Tab (P .tab k)

@@ -9,6 +9,7 @@ use Prim.Native.Nat.{ℕ, suc, _+_, _<_, _≤_}
 use lib.ListN.{length}
 use Rattle.seqs.specs.Seqs.{upd, tick, insertAt, count, without, In}
 use Rattle.places.specs.Store.{Kind, op, Role, Fam, Kind-dec, Role-dec, Fam-dec, fam, nodeOf, holderOf, Limited, Thing, Thing-dec, Con, Con-dec, Table, State, alive, Live, Tab, owns, Link, nest, outer, upBy, up, Ends, Clear, Linked, born, gone, birth, end, setList, setOwn, relink, enter, leave}
+pub use Rattle.places.specs.May.{Fresh, Bare, CanEnter}
 use Rattle.seqs.proofs.Base.{upd-image, upd-self, count-insertAt, length-insertAt, count-leaves, length-less, in-head, upd-at, upd-same, upd-other, upd2-same, upd2-cases, tick-yes, tick-no, tick-pos, count-append, count-gone, count-stays, rises-on, rises-snoc, rises-without, count-less}
 
 -- ---- climbing
@@ -182,12 +183,6 @@ module _ (P : State) (a : Thing) (t : ℕ) where
   pub link-birth : {y : Thing} {f : Fam} {b : Con} → Link P y f b → Link (birth a t P) y f b
   link-birth {y} {f} {b} L = record { family = L .family; node = L .node; holder = L .holder; live = live-birth y (L .live); home = live-birth (b .1) (L .home) }
 
--- a may be born
-pub record Fresh (P : State) (a : Thing) (t : ℕ) : Type 0 where
-  pub dead : alive P a ≡ 0
-  pub room : a .1 < P .tab (a .0) .cap
-  pub flags : a .0 ≡ op → t ≤ 3
-
 pub birth-linked : {P : State} → Linked P → (a : Thing) (t : ℕ) → Fresh P a t → Linked (birth a t P)
 unfolding birth alive up
 birth-linked {P} S a t F =
@@ -211,11 +206,6 @@ module _ (P : State) (a : Thing) where
       by-cases (Kind-dec (b .0) (a .0))
       (λ e. rw (upd-at Kind-dec (P .tab) (a .0) (gone (a .1) (P .tab (a .0))) e, e) (count-stays ℕ-discrete (b .1) (a .1) (P .tab (a .0) .order) (place-differs n e)))
       (λ m. rw (upd-other Kind-dec (P .tab) (a .0) (gone (a .1) (P .tab (a .0))) m))
-
--- a may end: it stands in no list, and its own are empty
-pub record Bare (P : State) (a : Thing) : Type 0 where
-  pub alone : (f : Fam) → P .own a f ≡ none
-  pub empty : (r : Role) → P .list a r ≡ []
 
 pub owns-own : (c : Con) → owns (some c) c ≡ 1
 unfolding owns
@@ -343,15 +333,6 @@ dead-clear {P} S x d {y} (Ends.top e) h = Clear.top {x = y} (λ p. absurd (omega
 dead-clear {P} S x d {y} (Ends.climb {y = z} e c) h = Clear.climb {x = y} (λ p. absurd (omega (arith, ap (alive P) p))) e (dead-clear S x d c (up-live S y z e))
 
 -- ---- the two steps on lists
-
-pub record CanEnter (P : State) (c : Con) (x : Thing) : Type 0 where
-  pub free : P .own x (fam (c .0)) ≡ none
-  pub node : x .0 ≡ nodeOf (c .0)
-  pub holder : c .1 .0 ≡ holderOf (c .0)
-  pub live : Live P x
-  pub home : Live P (c .1)
-  pub limit : Limited (c .0) → length (P .list (c .1) (c .0)) < 64
-  pub clear : nest (x .0) ≡ some (fam (c .0)) → Clear (up P) x (c .1)
 
 pub enter-ok : {P : State} → Linked P → (c : Con) (i : ℕ) (x : Thing) → CanEnter P c x → Linked (enter c i x P)
 unfolding enter

@@ -10,7 +10,8 @@ use Prim.Native.Nat.{ℕ, _<_}
 use lib.ListN.{length}
 use Rattle.places.specs.Store.{Kind, op, blk, reg, val, usg, Role, operands, successors, valueUses, blockUses, results, arguments, regions, ops, blocks, Fam, slots, vals, regs, opsIn, blocksIn, fam, nodeOf, holderOf, Limited, Thing, Con, State, Live, Link, up, Linked, Placed, Sound, birth, end, enter, leave, relink, setOwn, setList}
 use Rattle.places.specs.View.{changeList, shown, num, named, namedC, view, amend, setHome, nBirth, nEnd, nEnter, nLeave}
-use Rattle.places.proofs.Steps.{Fresh, Bare, CanEnter, birth-linked, end-linked, enter-ok, leave-ok, alive-born, alive-birth, live-birth, alive-end, alive-ended, alive-enter, alive-leave, own-entered, own-enter-other, own-leave-other, dead-clear, dead-bare, some-none}
+use Rattle.places.specs.May.{Fresh, Bare, CanEnter}
+use Rattle.places.proofs.Steps.{birth-linked, end-linked, enter-ok, leave-ok, alive-born, alive-birth, live-birth, alive-end, alive-ended, alive-enter, alive-leave, own-entered, own-enter-other, own-leave-other, dead-clear, dead-bare, some-none}
 use Rattle.places.proofs.Sees.{see-birth, num-new, num-old, not-new, see-end, see-enter, see-leave, end-amend}
 use Rattle.places.proofs.Placing.{placed-but}
 

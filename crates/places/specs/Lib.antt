@@ -1,5 +1,6 @@
 pub mod Store
 pub mod View
+pub mod May
 pub mod Edits
 pub mod Parts
 pub mod Walk

@@ -16,7 +16,7 @@ use Rattle.context.specs.Layout.{arena}
 use Rattle.context.specs.Memory.{SoundStore, layoutOf}
 use Rattle.context.specs.Start.{startCode, StartIs}
 use Rattle.context.specs.Performed.{abs}
-use Rattle.readers.proofs.Public.{headed}
+use Rattle.context.proofs.Checking.{headed}
 use Rattle.script.specs.declared.Ran.{Ran}
 use Rattle.script.specs.Calls.{flat, RanOn, Scripted}
 use Rattle.listing.specs.Writer.{Written}

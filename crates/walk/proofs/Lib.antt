@@ -3,7 +3,6 @@ pub mod DropLaws
 pub mod DropWalk
 pub mod Asked
 pub mod OwnUses
-pub mod Cursor
 pub mod JudgeLaws
 pub mod Search
 pub mod VerifyLaws

@@ -38,8 +38,8 @@ fn drop_own(m: &mut [u32], l: Layout, o: usize, w: Walked) -> Walked
     requires { ⌜ CanDrop l (op, o) w (now m) ⌝ }
     ensures { λ r. ⌜ OwnDropped l (op, o) w (now (m .entry)) (now (m .exit)) r ⌝ }
 {
-    let a = context::drop_slots(m, l, 2 * o);
-    let b = context::drop_slots(m, l, 2 * o + 1);
+    let a = context::operation::drop_slots(m, l, 2 * o);
+    let b = context::operation::drop_slots(m, l, 2 * o + 1);
     Walked {
         left: w.left - 1,
         freed: w.freed + 1,
@@ -163,7 +163,7 @@ fn is_terminator(m: &[u32], l: Layout, o: usize) -> bool
     requires { ⌜ SoundStore l (now m) × Live (stateOf l (now m)) (op, o) ⌝ }
     ensures { λ r. ⌜ r ≡ terminates (stateOf l (now (m .entry))) (op, o) ⌝ }
 {
-    let f = context::flags_of(m, l, o);
+    let f = context::operation::flags_of(m, l, o);
     f % 2 == 1
 }
 
@@ -172,7 +172,7 @@ fn may_lack(m: &[u32], l: Layout, o: usize) -> bool
     requires { ⌜ SoundStore l (now m) × Live (stateOf l (now m)) (op, o) ⌝ }
     ensures { λ r. ⌜ r ≡ lackable (stateOf l (now (m .entry))) (op, o) ⌝ }
 {
-    let f = context::flags_of(m, l, o);
+    let f = context::operation::flags_of(m, l, o);
     2 <= f
 }
 
@@ -639,7 +639,7 @@ fn end_values(m: &mut [u32], l: Layout, c: usize)
 {
     let mut k = context::first_of(m, l, 2, c);
     while k != 0 {
-        context::end_value(m, l, k - 1);
+        context::value::end_value(m, l, k - 1);
         k = context::first_of(m, l, 2, c);
     }
 }
@@ -691,14 +691,14 @@ fn end_thing(m: &mut [u32], l: Layout, k: usize, p: usize)
     ensures { λ _. ⌜ Ended l (kindOf k, p) (now (m .entry)) (now (m .exit)) ⌝ }
 {
     if k == 0 {
-        context::end_operation(m, l, p);
+        context::operation::end_operation(m, l, p);
         return;
     }
     if k == 1 {
-        context::end_block(m, l, p);
+        context::basic_block::end_block(m, l, p);
         return;
     }
-    context::end_region(m, l, p);
+    context::region::end_region(m, l, p);
 }
 
 // The thing of the kind `k` at `p` ends, with all that lies in it: its values, then what lies in it, then itself.

@@ -13,7 +13,6 @@ use base.Fml.{Fml, fat, fsep}
 use prog.Wp.{Heap}
 use ghost.Atoms.{Atoms, sem}
 use types.Kit.{Goal, Given, Item, ‵, Step, step, _$_, _∵_, !, qed, by, move, drop, use1, check, fsplit, fjoin, fpick, fpack, done}
-use denote.RattleType.{RattleType}
 use denote.Laws.{Is, shows}
 use denote.Memory.{cellAt, partAt, partOf}
 use denote.Plain.{uint-makes}

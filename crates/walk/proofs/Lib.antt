@@ -2,6 +2,7 @@ pub mod Nested
 pub mod DropLaws
 pub mod DropWalk
 pub mod Asked
+pub mod Lending
 pub mod OwnUses
 pub mod JudgeLaws
 pub mod Search

@@ -36,6 +36,10 @@ if [ -z "${RECIPE_LIB-}" ]; then
 fi
 export RECIPE_LIB
 
+# What docs/EMBEDDING.md says of the library: it has no variables of its own and wants nothing but memset.
+[ "$(nm -u "$RECIPE_LIB" | awk '$1 == "U" { print $2 }')" = memset ]
+[ -z "$(nm "$RECIPE_LIB" | awk '$2 ~ /^[bBdDcC]$/')" ]
+
 echo "== Rust crate"
 (cd rust && cargo test --quiet --offline --locked --jobs 2)
 

@@ -76,7 +76,22 @@ fn sizes_agree_with_the_library() {
             }
         }
     }
-    assert_eq!(4 * limits.store_words(), 1_093_436);
+}
+
+#[test]
+fn sizes_are_those_of_the_documentation() {
+    let text = String::from_utf8(common::read("docs/EMBEDDING.md")).unwrap();
+    let grouped = |bytes: usize| match (bytes / 1_000_000, bytes / 1000 % 1000, bytes % 1000) {
+        (0, 0, ones) => format!("{ones}"),
+        (0, thousands, ones) => format!("{thousands},{ones:03}"),
+        (millions, thousands, ones) => format!("{millions},{thousands:03},{ones:03}"),
+    };
+    let sizes = [[1; 5], [8, 4, 4, 16, 32], [128, 64, 64, 256, 512], [4096, 1024, 1024, 8192, 16384]];
+    for [operations, blocks, regions, values, uses] in sizes {
+        let capacities = Capacities { operations, blocks, regions, values, uses };
+        let row = format!("| {} bytes | {} bytes |\n", grouped(4 * capacities.store_words()), grouped(4 * capacities.scratch_words()));
+        assert!(text.contains(&row), "{row}");
+    }
 }
 
 #[test]

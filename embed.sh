@@ -6,7 +6,7 @@
 # The last line is `embedding: all passed`, or the script ends with 1.
 set -euo pipefail
 cd "$(dirname "$0")"
-trap 'echo "embedding: failed" >&2' ERR
+trap '[ $? = 0 ] || echo "embedding: failed" >&2' EXIT
 
 packages() {
     command -v cargo > /dev/null || echo cargo
@@ -55,4 +55,8 @@ done
 target/embed/first examples/first.bin | diff - examples/c/first.stdout
 target/embed/any_contents | diff - examples/c/any_contents.stdout
 echo "both print what is stored"
+
+echo "== the boundary of the compiled library"
+cc -std=c99 -pedantic -Wall -Wextra -Werror -I include tests/guarded.c "$RECIPE_LIB" -o target/embed/guarded
+target/embed/guarded differential/recorded.bin
 echo "embedding: all passed"

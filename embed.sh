@@ -36,6 +36,8 @@ if [ -z "${RECIPE_LIB-}" ]; then
 fi
 export RECIPE_LIB
 
+echo "== declarations"
+tests/signatures.py
 # What docs/EMBEDDING.md says of the library: it has no variables of its own and wants nothing but memset.
 [ "$(nm -u "$RECIPE_LIB" | awk '$1 == "U" { print $2 }')" = memset ]
 [ -z "$(nm "$RECIPE_LIB" | awk '$2 ~ /^[bBdDcC]$/')" ]

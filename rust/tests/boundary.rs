@@ -192,6 +192,47 @@ fn listings_of_every_length() {
     }
 }
 
+/// A store whose counts of births are nearly spent, so that numbers have ten digits: each has as many left as its kind has places.
+fn nearly_spent() -> Vec<u32> {
+    let mut words = vec![0; SMALL.store_words()];
+    assert_eq!(raw::start(&mut words, [3, 2, 2, 4, 5]), 0);
+    let mut at = 5;
+    for places in [3, 2, 2, 4, 5] {
+        words[at] = u32::MAX - places;
+        at += 2 + 2 * places as usize + 2;
+    }
+    words
+}
+
+#[test]
+fn the_longest_listing_fits_and_numbers_are_spent() {
+    use recipe_store::{Block, Operation, Region};
+    let (mut words, mut scratch) = (nearly_spent(), [0; 3]);
+    let mut store = Store::open(&mut words, &mut scratch).unwrap();
+    let [operation, block, region, value] = [3, 2, 2, 4].map(|places| u32::MAX - places);
+    let (long, flags) = (Type(u32::MAX), Flags::TerminatorWithOpenBlocks);
+    assert_eq!(store.new_block(&[long]), Ok(Block(block)));
+    assert_eq!(store.new_block(&[]), Ok(Block(block + 1)));
+    assert_eq!(store.new_operation(flags, &[long, long], &[Value(value)], &[Block(block)], 2), Ok(Operation(operation)));
+    store.link_block_back(Block(block), Region(region)).unwrap();
+    store.link_block_back(Block(block + 1), Region(region + 1)).unwrap();
+    for number in [operation + 1, operation + 2] {
+        assert_eq!(store.new_operation(flags, &[], &[Value(value)], &[], 0), Ok(Operation(number)));
+        store.link_operation_back(Operation(number), Block(block)).unwrap();
+    }
+    assert_eq!(store.push_successor(Operation(operation), Block(block + 1)), Ok(1));
+    assert_eq!(store.push_result(Operation(operation), long), Ok(2));
+    let live = store.view().live();
+    assert_eq!([live.operations, live.blocks, live.regions, live.values, live.uses], [3, 2, 2, 4, 5]);
+    let answers = [recipe_store::Answer { refusal: 0, a: u32::MAX, b: u32::MAX }; 2];
+    let mut out = vec![0; SMALL.listing_bytes(2)];
+    let length = store.view().listing(&answers, &mut out).unwrap().len();
+    assert!(length + 100 > out.len());
+    assert_eq!(store.push_operand(Operation(operation), Value(value)), Err(Refusal::TableFull));
+    assert_eq!(store.pop_successor(Operation(operation)), Ok(Block(block + 1)));
+    assert_eq!(store.push_operand(Operation(operation), Value(value)), Err(Refusal::NumbersSpent));
+}
+
 /// The words of a sound store after damage: either they are refused and kept, or they are another sound store, on which edits go on.
 fn survives(words: &[u32], script: &[u8]) {
     if !raw::check(words) {

@@ -11,7 +11,10 @@ pub struct Answer {
 }
 
 impl Answer {
-    /// What it says as the answer to an edit of this kind (1 to 44; a kind of another number has no reply but a refusal).
+    /// What it says as the answer to an edit of this kind.
+    ///
+    /// # Panics
+    /// Where the numbers are none that the library gives for the kind: a refusal over 22, or a verdict over 4.
     pub fn reply(self, kind: u16) -> Result<Reply, Refusal> {
         Refusal::of_reply(self.refusal)?;
         Ok(Reply::of(kind, self.a, self.b))

@@ -61,6 +61,25 @@ fn a_start_wants_the_sum() {
 }
 
 #[test]
+fn a_refused_start_changes_nothing() {
+    let none = Capacities { blocks: 0, ..SMALL };
+    let over = Capacities { values: 8193, ..SMALL };
+    let long = SMALL.store_words();
+    let refused = [
+        (none, 2 * long, 0, Refusal::BadStart),
+        (over, 2 * long, 3, Refusal::BadStart),
+        (SMALL, long - 1, 2, Refusal::BadStart),
+        (SMALL, long - 1, 3, Refusal::BadStart),
+        (SMALL, long, 2, Refusal::BufferShort),
+    ];
+    for (capacities, words, scratch, refusal) in refused {
+        let (mut words, mut scratch) = (vec![OLD; words], vec![OLD; scratch]);
+        assert_eq!(Store::start(&mut words, &mut scratch, capacities).unwrap_err(), refusal);
+        assert!(words.iter().chain(&scratch).all(|&word| word == OLD));
+    }
+}
+
+#[test]
 fn sizes_agree_with_the_library() {
     let limits = Capacities::LARGEST;
     let ends = |limit: u32| [0, 1, 2, 63, 64, 65, limit - 1, limit, limit + 1, u32::MAX];

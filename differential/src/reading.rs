@@ -131,9 +131,20 @@ impl Store {
     fn value(&self, n: u32) -> Result<(), u32> {
         need(self.values.contains_key(&n), 10)
     }
-    fn live(&self) -> [usize; 5] {
+    /// How many are live, by kind.
+    pub fn live(&self) -> [usize; 5] {
         let uses = self.ops.values().map(|o| o.operands.len() + o.successors.len()).sum();
         [self.ops.len(), self.blocks.len(), self.regions.len(), self.values.len(), uses]
+    }
+    /// The birth numbers of what is live of a kind.
+    pub fn numbers_of(&self, kind: usize) -> Box<dyn Iterator<Item = u32> + '_> {
+        match kind {
+            OPS => Box::new(self.ops.keys().copied()),
+            BLOCKS => Box::new(self.blocks.keys().copied()),
+            REGIONS => Box::new(self.regions.keys().copied()),
+            VALUES => Box::new(self.values.keys().copied()),
+            _ => Box::new(self.ops.values().flat_map(|o| o.operands.iter().chain(&o.successors).map(|x| x.0))),
+        }
     }
 
     // ---- births

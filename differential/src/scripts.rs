@@ -367,20 +367,31 @@ impl Grower<'_> {
     }
 }
 
+/// Records in a script, at most.
+pub const LONGEST: usize = 200;
+
 /// The script of this seed, its profile's name and its capacities.
-pub fn script(seed: u64) -> (Vec<u8>, &'static str, Capacities) {
+pub fn script(seed: u64, longest: usize) -> (Vec<u8>, &'static str, Capacities) {
     let name = PROFILES[(seed % PROFILES.len() as u64) as usize];
     let mut rng = Rng(seed.wrapping_mul(0x0100_0003));
-    script_of(name, &mut rng)
+    script_up_to(name, longest, &mut rng)
 }
 
 pub fn script_of(name: &'static str, rng: &mut Rng) -> (Vec<u8>, &'static str, Capacities) {
-    let p = profile(name, rng);
+    script_up_to(name, LONGEST, rng)
+}
+
+/// A script of at most so many records; short ones are run over smaller stores too.
+fn script_up_to(name: &'static str, longest: usize, rng: &mut Rng) -> (Vec<u8>, &'static str, Capacities) {
+    let mut p = profile(name, rng);
+    if longest < LONGEST && p.capacities == PROGRAM {
+        p.capacities = rng.of(&[PROGRAM, [64, 32, 65, 128, 192], [33, 20, 24, 96, 128], [40, 31, 30, 70, 127]]);
+    }
     if name == "junk" {
         return (junk(rng), name, p.capacities);
     }
     let store = start(p.capacities, words(p.capacities)).unwrap();
-    let mut records_left = 1 + rng.below(200);
+    let mut records_left = 1 + rng.below(longest);
     let mut grower = Grower { rng, p: &p, store };
     let mut script = vec![];
     while records_left > 0 {

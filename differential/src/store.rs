@@ -1,13 +1,13 @@
 //! The proved store against the second reading: replies, listings, and every lent buffer after every call.
 use crate::{
-    compare::{fnv, text},
+    compare::{Expected, expected, fnv, text},
     interface,
     reading::{self, Capacities, MOST, Store},
     record::pieces,
     scripts::{self, Rng},
     words::{self, Places},
 };
-use std::collections::BTreeMap;
+use std::collections::{BTreeMap, HashSet};
 
 type Outcome = Result<(), String>;
 
@@ -72,97 +72,122 @@ impl Lent {
 }
 
 /// The first difference between the store and the second reading on this script, if any.
-pub fn difference(script: &[u8], capacities: Capacities) -> Option<String> {
+pub fn difference(script: &[u8], capacities: Capacities, second: &Expected) -> Option<String> {
     let run = || -> Outcome {
         let mut rng = Rng(fnv(script));
-        let whole = by_script(script, capacities, &mut rng)?;
-        let single = by_edits(script, capacities, &mut rng)?;
+        let room = rng.below(3 * pieces(script).len() + 1);
+        let (single, cut_short) = by_edits(script, capacities, room / 3, &mut rng)?;
+        let whole = by_script(script, capacities, second, &mut rng)?;
         expect(whole.words[..whole.sum] == single.words[..single.sum], "a script and its single edits end in other words")?;
-        short_buffers(script, capacities, &mut rng)
+        short_buffers(script, capacities, second, room, &cut_short, &mut rng)
     };
     run().err()
 }
 
-fn by_script(script: &[u8], capacities: Capacities, rng: &mut Rng) -> Result<Lent, String> {
-    let mut second = reading::start(capacities, u64::MAX).unwrap();
+fn by_script(script: &[u8], capacities: Capacities, second: &Expected, rng: &mut Rng) -> Result<Lent, String> {
     let mut lent = Lent::start(capacities, rng)?;
-    let room = 3 * pieces(script).len() + rng.below(7);
-    let (answers, code) = second.script(script, lent.scratch, room);
+    let room = 3 * second.answers.len() + rng.below(7);
     let scratch = lent.scratch;
-    let got = lent.script(script, scratch, room)?;
-    for (k, (a, b)) in got.0.iter().zip(&answers).enumerate() {
+    let (answers, code) = lent.script(script, scratch, room)?;
+    for (k, (a, b)) in answers.iter().zip(&second.answers).enumerate() {
         expect(a == b, &format!("edit {k} of the script gets {a:?}, the second reading {b:?}"))?;
     }
-    expect(got == (answers.clone(), code), &format!("the script returns {} after {} answers, the second reading {code}", got.1, got.0.len()))?;
-    expect(interface::is_sound(&lent.words), "not sound after the script")?;
-    let expected = second.listing(&answers);
-    let listing = lent.listing(&answers, expected.len())?;
-    let line = listing.lines().zip(expected.lines()).find(|(a, b)| a != b);
-    expect(listing == expected, &format!("other listing: {line:?}"))?;
+    expect(answers == second.answers && code == 0, &format!("the script returns {code} after {} answers", answers.len()))?;
+    let listing = lent.listing(&answers, second.listing.len())?;
+    let line = listing.lines().zip(second.listing.lines()).find(|(a, b)| a != b);
+    expect(listing == second.listing, &format!("other listing: {line:?}"))?;
     Ok(lent)
 }
 
-fn by_edits(script: &[u8], capacities: Capacities, rng: &mut Rng) -> Result<Lent, String> {
+/// The store after the script by single edits, and its words after `k` of them.
+fn by_edits(script: &[u8], capacities: Capacities, k: usize, rng: &mut Rng) -> Result<(Lent, Vec<u32>), String> {
     let second = reading::start(capacities, u64::MAX).unwrap();
     let mut lent = Lent::start(capacities, rng)?;
-    edits_from(second, &mut lent, script, rng)?;
-    Ok(lent)
+    let empty = Standing::of(capacities, &Places::default());
+    let cut_short = edits_from(second, empty, &mut lent, script, k, rng)?;
+    Ok((lent, cut_short))
 }
 
-/// Single edits on both, with every buffer looked at after each.
-fn edits_from(mut second: Store, lent: &mut Lent, script: &[u8], rng: &mut Rng) -> Outcome {
-    for (k, record) in pieces(script).into_iter().enumerate() {
-        let before = lent.words.clone();
-        let scratch = lent.scratch;
+/// Single edits on both, with every buffer looked at after each. Each edit begins with the store's own check, so one that leaves an unsound store shows
+/// in the next answer. Returns the words after `keep` edits.
+fn edits_from(mut second: Store, mut standing: Standing, lent: &mut Lent, script: &[u8], keep: usize, rng: &mut Rng) -> Result<Vec<u32>, String> {
+    let records = pieces(script);
+    let look = rng.below(2 * records.len() + 1);
+    let mut before = lent.words.clone();
+    let mut kept = lent.words.clone();
+    for (k, record) in records.into_iter().enumerate() {
+        let (scratch, born) = (lent.scratch, second.born);
         let (got, wanted) = (lent.edit(record, scratch)?, second.edit(record, scratch));
         expect(got == wanted, &format!("single edit {k} gets {got:?}, the second reading {wanted:?}"))?;
         if wanted[0] != 0 {
             expect(lent.words == before, &format!("edit {k} is refused, {}, and has changed a word", wanted[0]))?;
         } else {
-            expect(interface::is_sound(&lent.words), &format!("not sound after edit {k}"))?;
-            if rng.percent(10) {
-                reads_as(&second, lent, &before, k)?;
+            before.copy_from_slice(&lent.words);
+            standing.follow(&second, born);
+            if k == look {
+                reads_as(&second, lent, &standing, &format!("after edit {k}"))?;
             }
         }
+        if k < keep {
+            kept.copy_from_slice(&lent.words);
+        }
     }
-    reads_as(&second, lent, &lent.words.clone(), usize::MAX)
+    expect(interface::is_sound(&lent.words), "not sound after single edits")?;
+    reads_as(&second, lent, &standing, "at the end")?;
+    Ok(kept)
 }
 
-/// The words, read apart from the library, are this store; what was born stands at the lowest free places.
-fn reads_as(second: &Store, lent: &Lent, before: &[u32], k: usize) -> Outcome {
-    let Some((store, places)) = words::read(&lent.words) else { return Err(format!("the store: its words are no sound store after edit {k}")) };
-    expect(store.rows() == second.rows() && store.born == second.born, &format!("its words read otherwise after edit {k}"))?;
-    let Some((_, mut was)) = words::read(before) else { return Err("the store: its words were no sound store".into()) };
-    for kind in 0..5 {
-        let old: Vec<u32> = was[kind].values().copied().collect();
-        let first_new = old.iter().max().map_or(0, |n| n + 1);
-        let ended = was[kind].values().any(|n| !places[kind].values().any(|m| m == n));
-        let mut born: Vec<(u32, usize)> = places[kind].iter().filter(|(_, n)| **n >= first_new && !old.contains(n)).map(|(p, n)| (*n, *p)).collect();
-        born.sort();
-        for (n, p) in born.into_iter().filter(|_| !ended) {
-            expect(words::lowest_free(&was[kind]) == p, &format!("edit {k} puts number {n} of kind {kind} at place {p}"))?;
-            was[kind].insert(p, n);
-        }
+/// The words, read apart from the library, are this store, with everything at its place.
+fn reads_as(second: &Store, lent: &Lent, standing: &Standing, when: &str) -> Outcome {
+    let Some((store, places)) = words::read(&lent.words) else { return Err(format!("the store: its words are no sound store {when}")) };
+    expect(store.rows() == second.rows() && store.born == second.born, &format!("its words read otherwise {when}"))?;
+    for (kind, numbers) in standing.0.iter().enumerate() {
+        let here = |p: usize| places[kind].get(&p).copied();
+        let wrong = (0..numbers.len()).find(|&p| here(p) != numbers[p]);
+        expect(wrong.is_none(), &format!("a birth was not at the lowest free place: kind {kind}, place {wrong:?}, {when}"))?;
     }
     Ok(())
 }
 
+/// The birth number at each place, by kind: what an edit ends leaves its place, and then each birth takes the lowest free one.
+struct Standing([Vec<Option<u32>>; 5]);
+
+impl Standing {
+    fn of(capacities: Capacities, places: &Places) -> Standing {
+        Standing(std::array::from_fn(|k| (0..capacities[k] as usize).map(|p| places[k].get(&p).copied()).collect()))
+    }
+    /// After an edit of the second reading, before which so many had been born.
+    fn follow(&mut self, store: &Store, born: [u64; 5]) {
+        let live = store.live();
+        for (k, numbers) in self.0.iter_mut().enumerate() {
+            let births = (store.born[k] - born[k]) as usize;
+            if numbers.iter().flatten().count() + births > live[k] {
+                let all: HashSet<u32> = store.numbers_of(k).collect();
+                numbers.iter_mut().filter(|n| n.is_some_and(|n| !all.contains(&n))).for_each(|n| *n = None);
+            }
+            for n in born[k]..store.born[k] {
+                let free = numbers.iter_mut().find(|n| n.is_none()).expect("a free place");
+                *free = Some(n as u32);
+            }
+        }
+    }
+}
+
 /// 22 for answers and for scratch.
-fn short_buffers(script: &[u8], capacities: Capacities, rng: &mut Rng) -> Outcome {
-    let room = rng.below(3 * pieces(script).len() + 1);
-    let mut second = reading::start(capacities, u64::MAX).unwrap();
+fn short_buffers(script: &[u8], capacities: Capacities, second: &Expected, room: usize, cut_short: &[u32], rng: &mut Rng) -> Outcome {
     let mut lent = Lent::start(capacities, rng)?;
     let scratch = lent.scratch;
-    let wanted = second.script(script, scratch, room);
+    let fit = (room / 3).min(second.answers.len());
+    let wanted = (second.answers[..fit].to_vec(), if fit < second.answers.len() { 22 } else { 0 });
     expect(lent.script(script, scratch, room)? == wanted, &format!("other answers with room for {room} words"))?;
-    expect(interface::is_sound(&lent.words), "not sound after a script without room")?;
-    let before = lent.words.clone();
+    expect(lent.words[..lent.sum] == cut_short[..lent.sum], "a script cut short by 22 and its single edits end in other words")?;
     let short = rng.below(capacities[0] as usize);
     expect(lent.script(script, short, 30)? == (vec![], 22), "a short scratch is not answered by 22")?;
     if let Some(record) = pieces(script).first() {
-        expect(lent.edit(record, short)? == second.edit(record, short), "a single edit with a short scratch gets another answer")?;
+        let wanted = reading::start(capacities, u64::MAX).unwrap().edit(record, short);
+        expect(lent.edit(record, short)? == wanted, "a single edit with a short scratch gets another answer")?;
     }
-    expect(lent.words == before, "a call refused by 22 has changed a word")
+    expect(lent.words[..lent.sum] == cut_short[..lent.sum], "a call refused by 22 has changed a word")
 }
 
 /// A store that follows record by record, for the small scripts.
@@ -211,7 +236,7 @@ fn starts(rng: &mut Rng) -> Outcome {
 }
 
 /// The store of a random script, its things at random places.
-fn scattered(rng: &mut Rng) -> (Store, Vec<u32>) {
+fn scattered(rng: &mut Rng) -> (Store, Places, Vec<u32>) {
     let (script, _, capacities) = scripts::script_of(rng.of(&["mixed", "deep", "moves", "branches", "small"]), rng);
     let mut store = reading::start(capacities, u64::MAX).unwrap();
     store.script(&script, usize::MAX, usize::MAX);
@@ -234,7 +259,7 @@ fn scattered(rng: &mut Rng) -> (Store, Vec<u32>) {
         }
     }
     let words = words::write(&store, &places);
-    (store, words)
+    (store, places, words)
 }
 
 fn damage_words(words: &mut Vec<u32>, rng: &mut Rng) {
@@ -272,7 +297,7 @@ fn damage_words(words: &mut Vec<u32>, rng: &mut Rng) {
 
 /// One damaged store: the check says what the reading of the words says, and an unsound one is refused by 6, untouched.
 fn damaged(rng: &mut Rng, sound_met: &mut u64) -> Outcome {
-    let (_, mut words) = scattered(rng);
+    let (_, _, mut words) = scattered(rng);
     expect(interface::is_sound(&words), "a sound store at scattered places is called unsound")?;
     damage_words(&mut words, rng);
     let sound = words::read(&words).is_some();
@@ -299,21 +324,22 @@ fn damaged(rng: &mut Rng, sound_met: &mut u64) -> Outcome {
 
 /// Single edits from a scattered store on, its numbers often nearly spent (21).
 fn from_scattered(rng: &mut Rng, refused_21: &mut u64) -> Outcome {
-    let (store, words) = scattered(rng);
+    let (store, places, words) = scattered(rng);
+    let standing = Standing::of(store.capacities, &places);
     let sum = words.len();
     let mut lent = Lent { words, sum, scratch: store.capacities[0] as usize };
     lent.words.extend([KEPT; SPARE]);
     let (script, _, _) = scripts::script_of("mixed", rng);
     let mut again = store.clone();
     *refused_21 += pieces(&script).iter().filter(|r| again.edit(r, usize::MAX)[0] == 21).count() as u64;
-    let edits = edits_from(store, &mut lent, &script, rng);
+    let edits = edits_from(store, standing, &mut lent, &script, 0, rng).map(|_| ());
     edits.map_err(|why| format!("{why}; after a scattered store: {}", text(&script)))
 }
 
 /// A script over a store of the largest capacities, often with more births than fit a small one.
 fn largest(rng: &mut Rng) -> Outcome {
     let (script, _, _) = scripts::script_of(rng.of(&["mixed", "lists", "erase"]), rng);
-    by_script(&script, MOST, rng).map(|_| ()).map_err(|why| format!("{why}; at the largest capacities: {}", text(&script)))
+    by_script(&script, MOST, &expected(&script, MOST), rng).map(|_| ()).map_err(|why| format!("{why}; at the largest capacities: {}", text(&script)))
 }
 
 /// n of each: starts, damaged stores, edits on scattered stores; and some at the largest capacities.

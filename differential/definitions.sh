@@ -32,6 +32,9 @@ count=$(echo $differ | wc -w)
 echo "$rows scripts computed by the definitions: $((rows - count)) as the Rust, $count differ, $took s"
 [ "$count" -eq 0 ] || exit 1
 
+# one file is enough here
+printf 'pub mod Over\npub mod Rows0\n' >"$work/crates/definitions/specs/Lib.antt"
+find "$work/crates/definitions/specs" -name 'Rows*.antt' ! -name Rows0.antt -exec rm {} +
 file=$work/crates/definitions/specs/Rows0.antt
 row=$(grep -o '^pub row-[0-9]*.*"edit 0 ok 0 0"' "$file" | head -n 1 | grep -o 'row-[0-9]*')
 sed -i "/^pub $row :/s/\"edit 0 ok 0 0\"/\"edit 0 ok 0 1\"/" "$file"

@@ -50,7 +50,7 @@ pub fn compare(script: &[u8], capacities: Capacities) -> (Vec<Met>, Option<Diffe
             Err(why) => return (met, Some(why)),
         };
         #[cfg(feature = "store")]
-        if let Some(d) = crate::store::difference(script, capacities, &second) {
+        if let Some(d) = crate::store::difference(script, capacities, &second, &rust) {
             return (met, Some(d));
         }
         drop(rust);

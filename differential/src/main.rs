@@ -50,6 +50,20 @@ fn run(n: u64, seed: u64, longest: usize) -> usize {
     differ
 }
 
+/// The first script that differs, and how many it took.
+fn first(n: u64, seed: u64, longest: usize) -> usize {
+    let shown = |s: u64| {
+        let (script, name, capacities) = scripts::script(s, longest);
+        difference(&script, capacities).map(|d| (s - seed + 1, name, d))
+    };
+    let found = (seed..seed + n).find_map(shown);
+    match &found {
+        Some((k, name, d)) => println!("{k}\t{name}\t{d}"),
+        None => println!("no difference in {n} scripts"),
+    }
+    found.is_some() as usize
+}
+
 /// The listing of the Rust, or of the second reading, of the script on standard input (bytes, or text after --text).
 fn show(args: &[String]) {
     let mut bytes = vec![];
@@ -106,6 +120,7 @@ fn main() {
     let command = args.first().map_or("", |a| a.as_str());
     let failures = match command {
         "run" => run(number(&args, 1, 1000), number(&args, 2, 1), number(&args, 3, scripts::LONGEST as u64) as usize),
+        "first" => first(number(&args, 1, 1000), number(&args, 2, 1), number(&args, 3, scripts::LONGEST as u64) as usize),
         "pairs" => {
             let (steps, differ) = small::pairs(number(&args, 1, 3) as u32);
             differ.iter().take(20).for_each(|d| println!("DIFFERS {d}"));
@@ -129,7 +144,7 @@ fn main() {
         #[cfg(feature = "store")]
         "damage" => differential::store::damage(number(&args, 1, 1000), number(&args, 2, 1)),
         _ => panic!(
-            "commands: run N SEED LONGEST, pairs N, show [--text] [--second], record FILE, definitions FOLDER N SEED LONGEST, faults N SEED, damage N SEED"
+            "commands: run N SEED LONGEST, first N SEED LONGEST, pairs N, show [--text] [--second], record FILE, definitions FOLDER N SEED LONGEST, faults N SEED, damage N SEED"
         ),
     };
     exit((failures > 0) as i32);

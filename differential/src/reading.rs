@@ -17,7 +17,7 @@ pub const REGIONS: usize = 2;
 pub const VALUES: usize = 3;
 pub const USES: usize = 4;
 
-#[derive(Clone, Default, Debug)]
+#[derive(Clone, Default, Debug, PartialEq)]
 pub struct Op {
     pub flags: u32,
     pub block: Option<u32>,
@@ -28,20 +28,20 @@ pub struct Op {
     pub regions: Vec<u32>,
 }
 
-#[derive(Clone, Default, Debug)]
+#[derive(Clone, Default, Debug, PartialEq)]
 pub struct Block {
     pub region: Option<u32>,
     pub arguments: Vec<u32>,
     pub ops: Vec<u32>,
 }
 
-#[derive(Clone, Default, Debug)]
+#[derive(Clone, Default, Debug, PartialEq)]
 pub struct Region {
     pub op: u32,
     pub blocks: Vec<u32>,
 }
 
-#[derive(Clone, Debug)]
+#[derive(Clone, Debug, PartialEq)]
 pub struct Store {
     pub capacities: Capacities,
     /// Births so far in each kind: the next birth numbers.

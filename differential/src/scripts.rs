@@ -381,11 +381,12 @@ pub fn script_of(name: &'static str, rng: &mut Rng) -> (Vec<u8>, &'static str, C
     script_up_to(name, LONGEST, rng)
 }
 
-/// A script of at most so many records; short ones are run over smaller stores too.
+/// A script of at most so many records. Most of the short ones are run over smaller stores: with room for all, or nearly.
 fn script_up_to(name: &'static str, longest: usize, rng: &mut Rng) -> (Vec<u8>, &'static str, Capacities) {
     let mut p = profile(name, rng);
-    if longest < LONGEST && p.capacities == PROGRAM {
-        p.capacities = rng.of(&[PROGRAM, [64, 32, 65, 128, 192], [33, 20, 24, 96, 128], [40, 31, 30, 70, 127]]);
+    if longest < LONGEST && p.capacities == PROGRAM && !rng.percent(8) {
+        let mut from = |least: usize, more: usize| (least + rng.below(more)) as u32;
+        p.capacities = [from(12, 30), from(8, 16), from(8, 30), from(24, 60), from(30, 100)];
     }
     if name == "junk" {
         return (junk(rng), name, p.capacities);

@@ -2,6 +2,7 @@
 use crate::{
     compare::{Expected, expected, fnv, text},
     interface,
+    published::Published,
     reading::{self, Capacities, MOST, Store},
     record::pieces,
     scripts::{self, Rng},
@@ -12,7 +13,12 @@ use std::collections::{BTreeMap, HashSet};
 type Outcome = Result<(), String>;
 
 fn expect(holds: bool, what: &str) -> Outcome {
-    if holds { Ok(()) } else { Err(format!("the store: {what}")) }
+    expect_or(holds, || what.to_string())
+}
+
+/// The message is made only where it is needed: this runs after every call.
+fn expect_or(holds: bool, what: impl FnOnce() -> String) -> Outcome {
+    if holds { Ok(()) } else { Err(format!("the store: {}", what())) }
 }
 
 /// What lent words hold before a call that is to keep them.
@@ -32,8 +38,12 @@ impl Lent {
     /// Started in a buffer full of old words.
     fn start(capacities: Capacities, rng: &mut Rng) -> Result<Lent, String> {
         let sum = reading::words(capacities) as usize;
-        let mut words: Vec<u32> = (0..sum).map(|_| rng.next() as u32).collect();
-        words.extend([KEPT; SPARE]);
+        let mut words = vec![KEPT; sum + SPARE];
+        let mut old = rng.next() | 1;
+        for w in &mut words[..sum] {
+            old = old.wrapping_mul(0x9E37_79B9_7F4A_7C15);
+            *w = (old >> 32) as u32;
+        }
         expect(interface::start(&mut words, capacities) == 0, "start is refused")?;
         let lent = Lent { words, sum, scratch: capacities[0] as usize + rng.below(3) };
         lent.kept_spare()?;
@@ -72,13 +82,14 @@ impl Lent {
 }
 
 /// The first difference between the store and the second reading on this script, if any.
-pub fn difference(script: &[u8], capacities: Capacities, second: &Expected) -> Option<String> {
+pub fn difference(script: &[u8], capacities: Capacities, second: &Expected, rust: &Published) -> Option<String> {
     let run = || -> Outcome {
         let mut rng = Rng(fnv(script));
         let room = rng.below(3 * pieces(script).len() + 1);
         let (single, cut_short) = by_edits(script, capacities, room / 3, &mut rng)?;
         let whole = by_script(script, capacities, second, &mut rng)?;
         expect(whole.words[..whole.sum] == single.words[..single.sum], "a script and its single edits end in other words")?;
+        readers(&whole.words, rust, &mut rng)?;
         short_buffers(script, capacities, second, room, &cut_short, &mut rng)
     };
     run().err()
@@ -90,12 +101,12 @@ fn by_script(script: &[u8], capacities: Capacities, second: &Expected, rng: &mut
     let scratch = lent.scratch;
     let (answers, code) = lent.script(script, scratch, room)?;
     for (k, (a, b)) in answers.iter().zip(&second.answers).enumerate() {
-        expect(a == b, &format!("edit {k} of the script gets {a:?}, the second reading {b:?}"))?;
+        expect_or(a == b, || format!("edit {k} of the script gets {a:?}, the second reading {b:?}"))?;
     }
-    expect(answers == second.answers && code == 0, &format!("the script returns {code} after {} answers", answers.len()))?;
+    expect_or(answers == second.answers && code == 0, || format!("the script returns {code} after {} answers", answers.len()))?;
     let listing = lent.listing(&answers, second.listing.len())?;
-    let line = listing.lines().zip(second.listing.lines()).find(|(a, b)| a != b);
-    expect(listing == second.listing, &format!("other listing: {line:?}"))?;
+    let line = || listing.lines().zip(second.listing.lines()).find(|(a, b)| a != b);
+    expect_or(listing == second.listing, || format!("other listing: {:?}", line()))?;
     Ok(lent)
 }
 
@@ -112,20 +123,20 @@ fn by_edits(script: &[u8], capacities: Capacities, k: usize, rng: &mut Rng) -> R
 /// in the next answer. Returns the words after `keep` edits.
 fn edits_from(mut second: Store, mut standing: Standing, lent: &mut Lent, script: &[u8], keep: usize, rng: &mut Rng) -> Result<Vec<u32>, String> {
     let records = pieces(script);
-    let look = rng.below(2 * records.len() + 1);
+    let look = rng.below(4 * records.len() + 1);
     let mut before = lent.words.clone();
     let mut kept = lent.words.clone();
     for (k, record) in records.into_iter().enumerate() {
         let (scratch, born) = (lent.scratch, second.born);
         let (got, wanted) = (lent.edit(record, scratch)?, second.edit(record, scratch));
-        expect(got == wanted, &format!("single edit {k} gets {got:?}, the second reading {wanted:?}"))?;
+        expect_or(got == wanted, || format!("single edit {k} gets {got:?}, the second reading {wanted:?}"))?;
         if wanted[0] != 0 {
-            expect(lent.words == before, &format!("edit {k} is refused, {}, and has changed a word", wanted[0]))?;
+            expect_or(lent.words == before, || format!("edit {k} is refused, {}, and has changed a word", wanted[0]))?;
         } else {
             before.copy_from_slice(&lent.words);
             standing.follow(&second, born);
             if k == look {
-                reads_as(&second, lent, &standing, &format!("after edit {k}"))?;
+                reads_as(&second, lent, &standing, "on the way")?;
             }
         }
         if k < keep {
@@ -140,11 +151,11 @@ fn edits_from(mut second: Store, mut standing: Standing, lent: &mut Lent, script
 /// The words, read apart from the library, are this store, with everything at its place.
 fn reads_as(second: &Store, lent: &Lent, standing: &Standing, when: &str) -> Outcome {
     let Some((store, places)) = words::read(&lent.words) else { return Err(format!("the store: its words are no sound store {when}")) };
-    expect(store.rows() == second.rows() && store.born == second.born, &format!("its words read otherwise {when}"))?;
+    expect_or(store == *second, || format!("its words read otherwise {when}"))?;
     for (kind, numbers) in standing.0.iter().enumerate() {
         let here = |p: usize| places[kind].get(&p).copied();
         let wrong = (0..numbers.len()).find(|&p| here(p) != numbers[p]);
-        expect(wrong.is_none(), &format!("a birth was not at the lowest free place: kind {kind}, place {wrong:?}, {when}"))?;
+        expect_or(wrong.is_none(), || format!("a birth was not at the lowest free place: kind {kind}, place {wrong:?}, {when}"))?;
     }
     Ok(())
 }
@@ -173,13 +184,47 @@ impl Standing {
     }
 }
 
+/// The use readers on a store that is the Rust's: every live value and block, against the Rust's own use sets; some that have ended; and one never born.
+fn readers(words: &[u32], rust: &Published, rng: &mut Rng) -> Outcome {
+    for block in [false, true] {
+        let (born, refusal) = if block { (rust.blocks.len() as u32, 8) } else { (rust.values.len() as u32, 10) };
+        let mut ended = 3;
+        for n in (0..born).chain([born, u32::MAX - 1, u32::MAX]) {
+            let live = if block { rust.block_live(n) } else { rust.value_live(n) };
+            if live {
+                let uses = rust.uses_of(block, n);
+                if !uses.is_empty() && rng.percent(30) {
+                    reads(words, block, n, rng.below(uses.len()), Err(22))?;
+                }
+                reads(words, block, n, uses.len() + rng.below(3), Ok(&uses))?;
+            } else if ended > 0 || n >= born {
+                ended -= (ended > 0) as u32;
+                reads(words, block, n, rng.below(3), Err(refusal))?;
+            }
+        }
+    }
+    Ok(())
+}
+
+/// One call of a reader with so much room: the uses or the refusal; what is not written is kept.
+fn reads(words: &[u32], block: bool, n: u32, room: usize, wanted: Result<&[u32], u32>) -> Outcome {
+    let mut buffer = vec![KEPT; room];
+    let (code, count) = interface::uses_of(words, block, n, &mut buffer);
+    let (wanted_code, uses) = wanted.map_or_else(|refusal| (refusal, &[][..]), |uses| (0, uses));
+    let good = code == wanted_code && count == uses.len() as u64;
+    let (written, rest) = buffer.split_at(uses.len());
+    let what = if block { "block" } else { "value" };
+    let told = || format!("the uses of {what} {n}, with room for {room}: {code}, {count}, {buffer:?}; wanted {wanted:?}");
+    expect_or(good && written == uses && rest.iter().all(|&w| w == KEPT), told)
+}
+
 /// 22 for answers and for scratch.
 fn short_buffers(script: &[u8], capacities: Capacities, second: &Expected, room: usize, cut_short: &[u32], rng: &mut Rng) -> Outcome {
     let mut lent = Lent::start(capacities, rng)?;
     let scratch = lent.scratch;
     let fit = (room / 3).min(second.answers.len());
     let wanted = (second.answers[..fit].to_vec(), if fit < second.answers.len() { 22 } else { 0 });
-    expect(lent.script(script, scratch, room)? == wanted, &format!("other answers with room for {room} words"))?;
+    expect_or(lent.script(script, scratch, room)? == wanted, || format!("other answers with room for {room} words"))?;
     expect(lent.words[..lent.sum] == cut_short[..lent.sum], "a script cut short by 22 and its single edits end in other words")?;
     let short = rng.below(capacities[0] as usize);
     expect(lent.script(script, short, 30)? == (vec![], 22), "a short scratch is not answered by 22")?;
@@ -203,7 +248,7 @@ impl Follower {
         let before = self.0.words.clone();
         let scratch = self.0.scratch;
         let got = self.0.edit(record, scratch)?;
-        expect(got == answer, &format!("{got:?}, the second reading {answer:?}"))?;
+        expect_or(got == answer, || format!("{got:?}, the second reading {answer:?}"))?;
         expect(answer[0] == 0 || self.0.words == before, "a refused edit has changed a word")?;
         expect(self.0.listing(&[], rows.len())? == rows, "other rows")
     }
@@ -226,8 +271,11 @@ fn starts(rng: &mut Rng) -> Outcome {
     let length = rng.of(&[sum, sum + 3, sum - 1, sum.saturating_sub(40), any, 0]);
     let mut buffer = vec![KEPT; length as usize];
     let wanted = reading::start(capacities, length).err().unwrap_or(0);
+    let allowed = reading::start(capacities, u64::MAX).is_ok();
+    let needed = if allowed { reading::words(capacities) as usize } else { 0 };
+    expect_or(interface::words(capacities) == needed, || format!("{capacities:?} need {} words, the second reading {needed}", interface::words(capacities)))?;
     let got = interface::start(&mut buffer, capacities);
-    expect(got == wanted, &format!("start {capacities:?} in {length} words gives {got}, the second reading {wanted}"))?;
+    expect_or(got == wanted, || format!("start {capacities:?} in {length} words gives {got}, the second reading {wanted}"))?;
     if got == 5 {
         return expect(buffer.iter().all(|&w| w == KEPT), "a refused start has written a word");
     }
@@ -302,7 +350,7 @@ fn damaged(rng: &mut Rng, sound_met: &mut u64) -> Outcome {
     damage_words(&mut words, rng);
     let sound = words::read(&words).is_some();
     *sound_met += sound as u64;
-    expect(interface::is_sound(&words) == sound, &format!("the check does not say {sound}"))?;
+    expect_or(interface::is_sound(&words) == sound, || format!("the check does not say {sound}"))?;
     if sound {
         return Ok(());
     }
@@ -319,7 +367,8 @@ fn damaged(rng: &mut Rng, sound_met: &mut u64) -> Outcome {
     expect(lent.edit(&record[..3], 4096)? == [1, 0, 0], "a broken record on an unsound store does not get 1")?;
     expect(lent.script(&record, 0, 12)? == (vec![], 6), "a script on an unsound store does not get 6")?;
     expect(lent.script(&[], 4096, 12)? == (vec![], 6), "an empty script on an unsound store does not get 6")?;
-    expect(lent.words == before, "a call refused by 6 has changed a word")
+    expect(lent.words == before, "a call refused by 6 has changed a word")?;
+    reads(&lent.words, rng.percent(50), rng.below(3) as u32, rng.below(3), Err(6))
 }
 
 /// Single edits from a scattered store on, its numbers often nearly spent (21).

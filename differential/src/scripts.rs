@@ -384,9 +384,10 @@ pub fn script_of(name: &'static str, rng: &mut Rng) -> (Vec<u8>, &'static str, C
 /// A script of at most so many records. Most of the short ones are run over smaller stores: with room for all, or nearly.
 fn script_up_to(name: &'static str, longest: usize, rng: &mut Rng) -> (Vec<u8>, &'static str, Capacities) {
     let mut p = profile(name, rng);
-    if longest < LONGEST && p.capacities == PROGRAM && !rng.percent(8) {
+    if longest < LONGEST && name != "small" && !rng.percent(8) {
+        let full = if name == "lists" { 60 } else { 0 };
         let mut from = |least: usize, more: usize| (least + rng.below(more)) as u32;
-        p.capacities = [from(12, 30), from(8, 16), from(8, 30), from(24, 60), from(30, 100)];
+        p.capacities = [from(12, 30), from(8, 16), from(8 + full, 30), from(24 + full, 60), from(30 + full, 100)];
     }
     if name == "junk" {
         return (junk(rng), name, p.capacities);

@@ -184,13 +184,18 @@ impl Standing {
     }
 }
 
-/// The use readers on a store that is the Rust's: every live value and block, against the Rust's own use sets; some that have ended; and one never born.
+/// The use readers on a store that is the Rust's: values and blocks, against the Rust's own use sets; some that have ended; and some never born.
+/// Each call begins with the store's own check, so all that live are read in one script of four, and about six of each kind in the others.
 fn readers(words: &[u32], rust: &Published, rng: &mut Rng) -> Outcome {
+    let all = rng.percent(25);
     for block in [false, true] {
         let (born, refusal) = if block { (rust.blocks.len() as u32, 8) } else { (rust.values.len() as u32, 10) };
-        let mut ended = 3;
-        for n in (0..born).chain([born, u32::MAX - 1, u32::MAX]) {
+        let mut ended = 2;
+        for n in (0..born).chain([born, u32::MAX]) {
             let live = if block { rust.block_live(n) } else { rust.value_live(n) };
+            if live && !all && rng.below(born as usize) >= 6 {
+                continue;
+            }
             if live {
                 let uses = rust.uses_of(block, n);
                 if !uses.is_empty() && rng.percent(30) {

@@ -1,34 +1,24 @@
-// Replays recorded scripts: each entry of standard input is a script and what the published Rust's listing of it is
-// (differential/README.md has the form). Prints how many entries there are and how many differ.
+// Replays recorded scripts: standard input is a sequence of entries, each a script and what the published Rust's listing of it
+// is (differential/README.md has the form). Prints how many entries there are and how many differ.
 ghost use Prim.Native.Nat.{_≤_};
-ghost use lib.ListN.{length};
 ghost use Rattle.seqs.specs.Seqs.{Says};
-ghost use Rattle.replay.specs.Same.{Alike};
+ghost use Rattle.replay.specs.Same.{Starts};
 
-// What became of an entry.
+// What became of an entry: there is none, it is as it must be, or not.
 pub enum Outcome {
+    End,
     Same,
     Differs,
-    Broken,
 }
 
-// The number that the next `k` bytes of standard input have, the lowest byte first; 4,294,967,295 where the input ends before.
-fn next_number(k: usize) -> u32
-    requires { ⌜ k ≤ 4 ⌝ }
+// Whether `a` starts with `b`.
+fn starts_with(a: &[u8], b: &[u8]) -> bool
+    ensures { λ r. ⌜ Says r (Starts (now (a .entry)) (now (b .entry))) ⌝ }
 {
-    let mut b = [0u8; 4];
-    let got = io::read_full(0, &mut b[..k]);
-    if got < k {
-        return 4294967295;
+    let n = b.len();
+    if a.len() < n {
+        return false;
     }
-    edit::number(&b, 0)
-}
-
-// Whether the first `n` bytes are the same.
-fn same_bytes(a: &[u8], b: &[u8], n: usize) -> bool
-    requires { ⌜ (n ≤ length (now a)) × (n ≤ length (now b)) ⌝ }
-    ensures { λ r. ⌜ Says r (Alike n (now (a .entry)) (now (b .entry))) ⌝ }
-{
     let mut i = 0;
     while i < n {
         if a[i] != b[i] {
@@ -39,69 +29,112 @@ fn same_bytes(a: &[u8], b: &[u8], n: usize) -> bool
     true
 }
 
-// The script is run; what is printed for it must be the `m` bytes that follow on standard input.
-fn compare(script: &[u8], m: usize) -> Outcome
-    requires { ⌜ m ≤ 262144 ⌝ }
-{
-    let mut want = [0u8; 262144];
-    let got = io::read_full(0, &mut want[..m]);
-    if got < m {
-        return Outcome::Broken;
-    }
+// Whether the program prints just this for the script.
+fn prints(script: &[u8], want: &[u8]) -> bool {
     let mut out = [0u8; 262144];
     let n = program::print(script, &mut out);
-    if n != m {
+    let good = starts_with(&out, want);
+    good && n == want.len()
+}
+
+// Whether the program prints just the first `m` bytes of `want` for the first `n` of `script`.
+fn prints_front(script: &[u8], n: usize, want: &[u8], m: usize) -> bool {
+    if script.len() < n {
+        return false;
+    }
+    if want.len() < m {
+        return false;
+    }
+    prints(&script[0..n], &want[0..m])
+}
+
+// Fills the first `k` bytes of `buf` from standard input: no where there are not so many.
+fn read_into(buf: &mut [u8], k: usize) -> bool {
+    if buf.len() < k {
+        return false;
+    }
+    let got = io::read_full(0, &mut buf[0..k]);
+    got == k
+}
+
+// The number that the next `k` bytes have, the lowest first; 4,294,967,295 where there are not so many.
+fn next_number(k: usize) -> u32 {
+    let mut b = [0u8; 4];
+    let good = read_into(&mut b, k);
+    if !good {
+        return 4294967295;
+    }
+    edit::number(&b, 0)
+}
+
+// What follows the script, which has `n` bytes: the length of what must be printed for it, and that.
+fn compare(script: &[u8], n: usize) -> Outcome {
+    let m = next_number(4) as usize;
+    if 262144 < m {
         return Outcome::Differs;
     }
-    let same = same_bytes(&out, &want, m);
+    let mut want = [0u8; 262144];
+    let good = read_into(&mut want, m);
+    if !good {
+        return Outcome::Differs;
+    }
+    let same = prints_front(script, n, &want, m);
     if same {
         return Outcome::Same;
     }
     Outcome::Differs
 }
 
-// One entry, whose script has `n` bytes.
-fn replay_entry(n: usize) -> Outcome {
+// The next entry: a script behind its length, and what must be printed.
+fn replay_entry() -> Outcome {
+    let n = next_number(2) as usize;
+    if n == 4294967295 {
+        return Outcome::End;
+    }
     if 16385 < n {
-        return Outcome::Broken;
+        return Outcome::Differs;
     }
     let mut script = [0u8; 16385];
-    let got = io::read_full(0, &mut script[..n]);
-    if got < n {
-        return Outcome::Broken;
+    let good = read_into(&mut script, n);
+    if !good {
+        return Outcome::Differs;
     }
-    let m = next_number(4);
-    if 262144 < m {
-        return Outcome::Broken;
-    }
-    compare(&script[..n], m as usize)
+    compare(&script, n)
 }
 
-fn tell(entries: usize, differ: usize, broken: usize) {
-    io::print_decimal(1, entries as u64);
-    io::write_all(1, b" scripts, ");
-    io::print_decimal(1, differ as u64);
-    io::write_all(1, b" differ, ");
-    io::print_decimal(1, broken as u64);
-    io::write_all(1, b" broken\n");
+// 1 where the entry is not as it must be.
+fn fault(r: Outcome) -> usize
+    ensures { λ n. ⌜ n ≤ 1 ⌝ }
+{
+    match r {
+        Outcome::End => 0,
+        Outcome::Same => 0,
+        Outcome::Differs => 1,
+    }
+}
+
+fn is_end(r: Outcome) -> bool {
+    match r {
+        Outcome::End => true,
+        Outcome::Same => false,
+        Outcome::Differs => false,
+    }
 }
 
 fn main() {
-    let mut i = 0;
-    let mut differ = 0;
-    let mut broken = 0;
-    while i < 65536 {
-        let n = next_number(2);
-        if n == 4294967295 {
+    let mut i: usize = 0;
+    let mut differ: usize = 0;
+    while i < 100000 {
+        let r = replay_entry();
+        let end = is_end(r);
+        if end {
             break;
         }
-        let r = replay_entry(n as usize);
-        match r {
-            Outcome::Same => {}
-            Outcome::Differs => differ += 1,
-            Outcome::Broken => broken += 1,
-        }
+        differ += fault(r);
         i += 1;
     }
-    tell(i, differ, broken);
+    io::print_decimal(1, i as u64);
+    io::write_all(1, b" scripts, ");
+    io::print_decimal(1, differ as u64);
+    io::write_all(1, b" differ\n");
 }

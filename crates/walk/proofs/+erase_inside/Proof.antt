@@ -35,205 +35,67 @@ erase-inside-below t =
     (falls 1 erase-inside-kinds.ps _<_ μ-erase-inside t)
     erase-inside.Pre
 
+-- what its callees ask and tell
+abbrev erase-inside-claims : ℕ → erase-inside-lts.Claims
+erase-inside-claims t =
+    (end-own-reads.Asked, end-own-reads.Learnt, inner-kind-reads.Asked, inner-kind-reads.Learnt, first-child-reads.Asked, first-child-reads.Learnt, erase-inside-below t, erase-inside.Post, end-thing-reads.Asked, end-thing-reads.Learnt)
+
 abbrev Inv-loop : erase-inside-lts.InvT-loop
 Inv-loop m₀ l k p j c₀ m c = Going l (kindOf k, p) m₀ m c × (length m ≡ length m₀)
 
 abbrev μ-loop : erase-inside-lts.MeasureT-loop
 μ-loop m₀ l k p j c₀ m c = length (kids (stateOf l m) (kindOf k, p))
 
-end-own-requires : (t : ℕ) → erase-inside-lts.Need-end-own-requires (
-  end-own-reads.Asked,
-  end-own-reads.Learnt,
-  inner-kind-reads.Asked,
-  inner-kind-reads.Learnt,
-  first-child-reads.Asked,
-  first-child-reads.Learnt,
-  erase-inside-below t,
-  erase-inside.Post,
-  end-thing-reads.Asked,
-  end-thing-reads.Learnt,
-) (erase-inside-at t) erase-inside.Post Inv-loop μ-loop
+end-own-requires : (t : ℕ) → erase-inside-lts.Need-end-own-requires (erase-inside-claims t) (erase-inside-at t) erase-inside.Post Inv-loop μ-loop
 end-own-requires t c κs =
     let s = c .before .before in (s .pre .1 .0, s .pre .1 .1)
 
-inner-kind-requires : (t : ℕ) → erase-inside-lts.Need-inner-kind-requires (
-  end-own-reads.Asked,
-  end-own-reads.Learnt,
-  inner-kind-reads.Asked,
-  inner-kind-reads.Learnt,
-  first-child-reads.Asked,
-  first-child-reads.Learnt,
-  erase-inside-below t,
-  erase-inside.Post,
-  end-thing-reads.Asked,
-  end-thing-reads.Learnt,
-) (erase-inside-at t) erase-inside.Post Inv-loop μ-loop
+inner-kind-requires : (t : ℕ) → erase-inside-lts.Need-inner-kind-requires (erase-inside-claims t) (erase-inside-at t) erase-inside.Post Inv-loop μ-loop
 inner-kind-requires t c κs =
     let s = c .before .before .before .before .before in s .pre .1 .0
 
-first-child-requires : (t : ℕ) → erase-inside-lts.Need-first-child-requires (
-  end-own-reads.Asked,
-  end-own-reads.Learnt,
-  inner-kind-reads.Asked,
-  inner-kind-reads.Learnt,
-  first-child-reads.Asked,
-  first-child-reads.Learnt,
-  erase-inside-below t,
-  erase-inside.Post,
-  end-thing-reads.Asked,
-  end-thing-reads.Learnt,
-) (erase-inside-at t) erase-inside.Post Inv-loop μ-loop
+first-child-requires : (t : ℕ) → erase-inside-lts.Need-first-child-requires (erase-inside-claims t) (erase-inside-at t) erase-inside.Post Inv-loop μ-loop
 first-child-requires t c κs =
     let s = c .before .before .before .before .before .before .before in (c .before .before .before .before .end-own .ensures .store, s .pre .1 .0, started-live (s .args .k) (s .args .p) (s .pre .1 .0) (s .pre .1 .1) (c .before .before .before .before .end-own .ensures))
 
-loop-holds : (t : ℕ) → erase-inside-lts.Need-loop-holds (
-  end-own-reads.Asked,
-  end-own-reads.Learnt,
-  inner-kind-reads.Asked,
-  inner-kind-reads.Learnt,
-  first-child-reads.Asked,
-  first-child-reads.Learnt,
-  erase-inside-below t,
-  erase-inside.Post,
-  end-thing-reads.Asked,
-  end-thing-reads.Learnt,
-) (erase-inside-at t) erase-inside.Post Inv-loop μ-loop
+loop-holds : (t : ℕ) → erase-inside-lts.Need-loop-holds (erase-inside-claims t) (erase-inside-at t) erase-inside.Post Inv-loop μ-loop
 loop-holds t c =
     let s = c .before .before .before .before .before .before .before .before in (started (s .args .k) (s .args .p) (s .pre .1 .0) (s .pre .1 .1) (c .before .before .before .before .before .end-own .ensures) (c .first-child .result) (c .first-child .ensures), refl)
 
-sub-erase-inside : (t : ℕ) → erase-inside-lts.Need-sub-erase-inside (
-  end-own-reads.Asked,
-  end-own-reads.Learnt,
-  inner-kind-reads.Asked,
-  inner-kind-reads.Learnt,
-  first-child-reads.Asked,
-  first-child-reads.Learnt,
-  erase-inside-below t,
-  erase-inside.Post,
-  end-thing-reads.Asked,
-  end-thing-reads.Learnt,
-) (erase-inside-at t) erase-inside.Post Inv-loop μ-loop
+sub-erase-inside : (t : ℕ) → erase-inside-lts.Need-sub-erase-inside (erase-inside-claims t) (erase-inside-at t) erase-inside.Post Inv-loop μ-loop
 sub-erase-inside t c =
     search needs
 
-erase-inside-requires : (t : ℕ) → erase-inside-lts.Need-erase-inside-requires (
-  end-own-reads.Asked,
-  end-own-reads.Learnt,
-  inner-kind-reads.Asked,
-  inner-kind-reads.Learnt,
-  first-child-reads.Asked,
-  first-child-reads.Learnt,
-  erase-inside-below t,
-  erase-inside.Post,
-  end-thing-reads.Asked,
-  end-thing-reads.Learnt,
-) (erase-inside-at t) erase-inside.Post Inv-loop μ-loop
+erase-inside-requires : (t : ℕ) → erase-inside-lts.Need-erase-inside-requires (erase-inside-claims t) (erase-inside-at t) erase-inside.Post Inv-loop μ-loop
 erase-inside-requires t c κs =
     let s = c .before .before .before .before .before .before .before .before .before .before .before in (omega (arith, s .pre .0, size-kept (s .args .k) (s .args .p) (s .pre .1 .0) (s .pre .1 .1) (c .before .before .before .before .before .before .before .before .end-own .ensures), child-less (s .args .k) (s .args .p) (c .before .before .loop .c) (c .before .before .before .before .before .inner-kind .result) (s .pre .1 .0) (c .before .before .before .before .before .inner-kind .ensures) (c .before .before .loop .inv .0) (c .before .loop-test .taken)), (omega (arith, inner≤ (s .args .k), c .before .before .before .before .before .inner-kind .ensures), child-can (s .args .k) (s .args .p) (c .before .before .loop .c) (c .before .before .before .before .before .inner-kind .result) (s .pre .1 .0) (c .before .before .before .before .before .inner-kind .ensures) (c .before .before .loop .inv .0) (c .before .loop-test .taken)))
 
-first-child-requires-2 : (t : ℕ) → erase-inside-lts.Need-first-child-requires-2 (
-  end-own-reads.Asked,
-  end-own-reads.Learnt,
-  inner-kind-reads.Asked,
-  inner-kind-reads.Learnt,
-  first-child-reads.Asked,
-  first-child-reads.Learnt,
-  erase-inside-below t,
-  erase-inside.Post,
-  end-thing-reads.Asked,
-  end-thing-reads.Learnt,
-) (erase-inside-at t) erase-inside.Post Inv-loop μ-loop
+first-child-requires-2 : (t : ℕ) → erase-inside-lts.Need-first-child-requires-2 (erase-inside-claims t) (erase-inside-at t) erase-inside.Post Inv-loop μ-loop
 first-child-requires-2 t c κs =
     let s = c .before .before .before .before .before .before .before .before .before .before .before .before .before .before .before in (c .before .before .before .erase-inside .ensures .store, s .pre .1 .0, after-live (s .args .k) (s .args .p) (c .before .before .before .before .before .before .loop .c) (c .before .before .before .before .before .before .before .before .before .inner-kind .result) (s .pre .1 .0) (c .before .before .before .before .before .before .before .before .before .inner-kind .ensures) (c .before .before .before .before .before .before .loop .inv .0) (c .before .before .before .before .before .loop-test .taken) (c .before .before .before .erase-inside .ensures))
 
-loop-less : (t : ℕ) → erase-inside-lts.Need-loop-less (
-  end-own-reads.Asked,
-  end-own-reads.Learnt,
-  inner-kind-reads.Asked,
-  inner-kind-reads.Learnt,
-  first-child-reads.Asked,
-  first-child-reads.Learnt,
-  erase-inside-below t,
-  erase-inside.Post,
-  end-thing-reads.Asked,
-  end-thing-reads.Learnt,
-) (erase-inside-at t) erase-inside.Post Inv-loop μ-loop
+loop-less : (t : ℕ) → erase-inside-lts.Need-loop-less (erase-inside-claims t) (erase-inside-at t) erase-inside.Post Inv-loop μ-loop
 loop-less t c =
     let s = c .before .before .before .before .before .before .before .before .before .before .before .before .before .before .before .before in fewer (s .args .k) (s .args .p) (c .before .before .before .before .before .before .before .loop .c) (c .before .before .before .before .before .before .before .before .before .before .inner-kind .result) (s .pre .1 .0) (c .before .before .before .before .before .before .before .before .before .before .inner-kind .ensures) (c .before .before .before .before .before .before .before .loop .inv .0) (c .before .before .before .before .before .before .loop-test .taken) (c .before .before .before .before .erase-inside .ensures)
 
-loop-again : (t : ℕ) → erase-inside-lts.Need-loop-again (
-  end-own-reads.Asked,
-  end-own-reads.Learnt,
-  inner-kind-reads.Asked,
-  inner-kind-reads.Learnt,
-  first-child-reads.Asked,
-  first-child-reads.Learnt,
-  erase-inside-below t,
-  erase-inside.Post,
-  end-thing-reads.Asked,
-  end-thing-reads.Learnt,
-) (erase-inside-at t) erase-inside.Post Inv-loop μ-loop
+loop-again : (t : ℕ) → erase-inside-lts.Need-loop-again (erase-inside-claims t) (erase-inside-at t) erase-inside.Post Inv-loop μ-loop
 loop-again t c =
     let s = c .before .before .before .before .before .before .before .before .before .before .before .before .before .before .before .before in (turn (s .args .k) (s .args .p) (c .before .before .before .before .before .before .before .loop .c) (c .before .before .before .before .before .before .before .before .before .before .inner-kind .result) (s .pre .1 .0) (c .before .before .before .before .before .before .before .before .before .before .inner-kind .ensures) (c .before .before .before .before .before .before .before .loop .inv .0) (c .before .before .before .before .before .before .loop-test .taken) (c .before .before .before .before .erase-inside .ensures) (c .first-child2 .result) (c .first-child2 .ensures), c .before .before .before .before .erase-inside .kept .0 ∙ c .before .before .before .before .before .before .before .loop .inv .1)
 
-end-thing-requires : (t : ℕ) → erase-inside-lts.Need-end-thing-requires (
-  end-own-reads.Asked,
-  end-own-reads.Learnt,
-  inner-kind-reads.Asked,
-  inner-kind-reads.Learnt,
-  first-child-reads.Asked,
-  first-child-reads.Learnt,
-  erase-inside-below t,
-  erase-inside.Post,
-  end-thing-reads.Asked,
-  end-thing-reads.Learnt,
-) (erase-inside-at t) erase-inside.Post Inv-loop μ-loop
+end-thing-requires : (t : ℕ) → erase-inside-lts.Need-end-thing-requires (erase-inside-claims t) (erase-inside-at t) erase-inside.Post Inv-loop μ-loop
 end-thing-requires t c κs =
     let s = c .before .before .before .before .before .before .before .before .before .before .before in ((c .before .before .loop .inv .0 .store, s .pre .1 .0), can-end (c .before .before .loop .inv .0) (c .before .loop-test .left))
 
-same-length : (t : ℕ) → erase-inside-lts.Need-same-length (
-  end-own-reads.Asked,
-  end-own-reads.Learnt,
-  inner-kind-reads.Asked,
-  inner-kind-reads.Learnt,
-  first-child-reads.Asked,
-  first-child-reads.Learnt,
-  erase-inside-below t,
-  erase-inside.Post,
-  end-thing-reads.Asked,
-  end-thing-reads.Learnt,
-) (erase-inside-at t) erase-inside.Post Inv-loop μ-loop
+same-length : (t : ℕ) → erase-inside-lts.Need-same-length (erase-inside-claims t) (erase-inside-at t) erase-inside.Post Inv-loop μ-loop
 same-length t c =
     search needs
 
-returns : (t : ℕ) → erase-inside-lts.Need-returns (
-  end-own-reads.Asked,
-  end-own-reads.Learnt,
-  inner-kind-reads.Asked,
-  inner-kind-reads.Learnt,
-  first-child-reads.Asked,
-  first-child-reads.Learnt,
-  erase-inside-below t,
-  erase-inside.Post,
-  end-thing-reads.Asked,
-  end-thing-reads.Learnt,
-) (erase-inside-at t) erase-inside.Post Inv-loop μ-loop
+returns : (t : ℕ) → erase-inside-lts.Need-returns (erase-inside-claims t) (erase-inside-at t) erase-inside.Post Inv-loop μ-loop
 returns t c =
     let s = c .before .before .before .before .before .before .before .before .before .before .before .before .before .before in finished (s .args .k) (s .args .p) (s .pre .1 .0) (s .pre .1 .1) (c .before .before .before .before .before .before .before .before .before .before .before .end-own .ensures) (c .before .before .before .before .before .loop .inv .0) (c .before .before .before .before .loop-test .left) (c .before .before .end-thing .ensures)
 
 pub +erase-inside-spec : {M : Type 1} → statement M
-+erase-inside-spec = close μ-erase-inside λ t. erase-inside-lts.spec (
-  end-own-reads.Asked,
-  end-own-reads.Learnt,
-  inner-kind-reads.Asked,
-  inner-kind-reads.Learnt,
-  first-child-reads.Asked,
-  first-child-reads.Learnt,
-  erase-inside-below t,
-  erase-inside.Post,
-  end-thing-reads.Asked,
-  end-thing-reads.Learnt,
-)
++erase-inside-spec = close μ-erase-inside λ t. erase-inside-lts.spec (erase-inside-claims t)
     (erase-inside-at t)
     erase-inside.Post
     Inv-loop

@@ -85,6 +85,19 @@ verify-region-below t =
     (falls 1 verify-region-kinds.ps _<_ μ-verify-region t)
     verify-region.Pre
 
+-- what the callees of each ask and tell
+abbrev verify-block-claims : ℕ → verify-block-lts.Claims
+verify-block-claims t =
+    (judge-block-reads.Asked, judge-block-reads.Learnt, is-clean-reads.Asked, is-clean-reads.Learnt, first-of-reads.Asked, first-of-reads.Learnt, verify-operation-below t, verify-operation.Post, next-of-reads.Asked, next-of-reads.Learnt)
+
+abbrev verify-operation-claims : ℕ → verify-operation-lts.Claims
+verify-operation-claims t =
+    (first-of-reads.Asked, first-of-reads.Learnt, verify-region-below t, verify-region.Post, is-clean-reads.Asked, is-clean-reads.Learnt, next-of-reads.Asked, next-of-reads.Learnt, judge-end-reads.Asked, judge-end-reads.Learnt)
+
+abbrev verify-region-claims : ℕ → verify-region-lts.Claims
+verify-region-claims t =
+    (first-of-reads.Asked, first-of-reads.Learnt, verify-block-below t, verify-block.Post, is-clean-reads.Asked, is-clean-reads.Learnt, next-of-reads.Asked, next-of-reads.Learnt)
+
 abbrev verify-block-Inv-loop : verify-block-lts.InvT-loop
 verify-block-Inv-loop m l b c k₀ k =
     Meeting l opsIn b m k (onOp (stateOf l m))
@@ -93,213 +106,59 @@ abbrev verify-block-μ-loop : verify-block-lts.MeasureT-loop
 verify-block-μ-loop m l b c k₀ k =
     ahead l opsIn b m k
 
-verify-block-judge-block-requires : (t : ℕ) → verify-block-lts.Need-judge-block-requires (
-  judge-block-reads.Asked,
-  judge-block-reads.Learnt,
-  is-clean-reads.Asked,
-  is-clean-reads.Learnt,
-  first-of-reads.Asked,
-  first-of-reads.Learnt,
-  verify-operation-below t,
-  verify-operation.Post,
-  next-of-reads.Asked,
-  next-of-reads.Learnt,
-) (verify-block-at t) verify-block.Post verify-block-Inv-loop verify-block-μ-loop
+verify-block-judge-block-requires : (t : ℕ) → verify-block-lts.Need-judge-block-requires (verify-block-claims t) (verify-block-at t) verify-block.Post verify-block-Inv-loop verify-block-μ-loop
 verify-block-judge-block-requires t c κs =
     c .before .pre .1
 
-verify-block-is-clean-requires : (t : ℕ) → verify-block-lts.Need-is-clean-requires (
-  judge-block-reads.Asked,
-  judge-block-reads.Learnt,
-  is-clean-reads.Asked,
-  is-clean-reads.Learnt,
-  first-of-reads.Asked,
-  first-of-reads.Learnt,
-  verify-operation-below t,
-  verify-operation.Post,
-  next-of-reads.Asked,
-  next-of-reads.Learnt,
-) (verify-block-at t) verify-block.Post verify-block-Inv-loop verify-block-μ-loop
+verify-block-is-clean-requires : (t : ℕ) → verify-block-lts.Need-is-clean-requires (verify-block-claims t) (verify-block-at t) verify-block.Post verify-block-Inv-loop verify-block-μ-loop
 verify-block-is-clean-requires t c κs =
     search needs
 
-verify-block-returns : (t : ℕ) → verify-block-lts.Need-returns (
-  judge-block-reads.Asked,
-  judge-block-reads.Learnt,
-  is-clean-reads.Asked,
-  is-clean-reads.Learnt,
-  first-of-reads.Asked,
-  first-of-reads.Learnt,
-  verify-operation-below t,
-  verify-operation.Post,
-  next-of-reads.Asked,
-  next-of-reads.Learnt,
-) (verify-block-at t) verify-block.Post verify-block-Inv-loop verify-block-μ-loop
+verify-block-returns : (t : ℕ) → verify-block-lts.Need-returns (verify-block-claims t) (verify-block-at t) verify-block.Post verify-block-Inv-loop verify-block-μ-loop
 verify-block-returns t c =
     block-self (c .before .before .before .before .pre .1 .0) (c .before .before .before .before .args .b) (c .before .before .judge-block .result) (c .before .before .judge-block .ensures .is) (sym (c .before .is-clean .ensures) ∙ nay (c .before .is-clean .result) (c .if1 .taken))
 
-verify-block-first-of-requires : (t : ℕ) → verify-block-lts.Need-first-of-requires (
-  judge-block-reads.Asked,
-  judge-block-reads.Learnt,
-  is-clean-reads.Asked,
-  is-clean-reads.Learnt,
-  first-of-reads.Asked,
-  first-of-reads.Learnt,
-  verify-operation-below t,
-  verify-operation.Post,
-  next-of-reads.Asked,
-  next-of-reads.Learnt,
-) (verify-block-at t) verify-block.Post verify-block-Inv-loop verify-block-μ-loop
+verify-block-first-of-requires : (t : ℕ) → verify-block-lts.Need-first-of-requires (verify-block-claims t) (verify-block-at t) verify-block.Post verify-block-Inv-loop verify-block-μ-loop
 verify-block-first-of-requires t c κs =
     ((c .before .before .before .before .pre .1 .0) .well, row< (in-block (c .before .before .before .before .args .l) (c .before .before .before .before .args .b)) (c .before .before .before .before .pre .1 .0) (c .before .before .before .before .pre .1 .1))
 
-verify-block-loop-holds : (t : ℕ) → verify-block-lts.Need-loop-holds (
-  judge-block-reads.Asked,
-  judge-block-reads.Learnt,
-  is-clean-reads.Asked,
-  is-clean-reads.Learnt,
-  first-of-reads.Asked,
-  first-of-reads.Learnt,
-  verify-operation-below t,
-  verify-operation.Post,
-  next-of-reads.Asked,
-  next-of-reads.Learnt,
-) (verify-block-at t) verify-block.Post verify-block-Inv-loop verify-block-μ-loop
+verify-block-loop-holds : (t : ℕ) → verify-block-lts.Need-loop-holds (verify-block-claims t) (verify-block-at t) verify-block.Post verify-block-Inv-loop verify-block-μ-loop
 verify-block-loop-holds t c =
     meeting _ (c .first-of .result) (c .first-of .ensures)
 
-verify-block-sub-verify-operation : (t : ℕ) → verify-block-lts.Need-sub-verify-operation (
-  judge-block-reads.Asked,
-  judge-block-reads.Learnt,
-  is-clean-reads.Asked,
-  is-clean-reads.Learnt,
-  first-of-reads.Asked,
-  first-of-reads.Learnt,
-  verify-operation-below t,
-  verify-operation.Post,
-  next-of-reads.Asked,
-  next-of-reads.Learnt,
-) (verify-block-at t) verify-block.Post verify-block-Inv-loop verify-block-μ-loop
+verify-block-sub-verify-operation : (t : ℕ) → verify-block-lts.Need-sub-verify-operation (verify-block-claims t) (verify-block-at t) verify-block.Post verify-block-Inv-loop verify-block-μ-loop
 verify-block-sub-verify-operation t c =
     search needs
 
-verify-block-verify-operation-requires : (t : ℕ) → verify-block-lts.Need-verify-operation-requires (
-  judge-block-reads.Asked,
-  judge-block-reads.Learnt,
-  is-clean-reads.Asked,
-  is-clean-reads.Learnt,
-  first-of-reads.Asked,
-  first-of-reads.Learnt,
-  verify-operation-below t,
-  verify-operation.Post,
-  next-of-reads.Asked,
-  next-of-reads.Learnt,
-) (verify-block-at t) verify-block.Post verify-block-Inv-loop verify-block-μ-loop
+verify-block-verify-operation-requires : (t : ℕ) → verify-block-lts.Need-verify-operation-requires (verify-block-claims t) (verify-block-at t) verify-block.Post verify-block-Inv-loop verify-block-μ-loop
 verify-block-verify-operation-requires t c κs =
     (omega (arith, c .before .before .before .before .before .before .before .pre .0, kid-falls (in-block (c .before .before .before .before .before .before .before .args .l) (c .before .before .before .before .before .before .before .args .b)) (c .before .before .before .before .before .before .before .pre .1 .0) (c .before .loop .inv .at) (c .loop-test .taken)), ((c .before .before .before .before .before .before .before .pre .1 .0), here (c .before .before .before .before .before .before .before .pre .1 .0) (c .before .loop .inv .at) (c .loop-test .taken) .live))
 
-verify-block-is-clean-requires-2 : (t : ℕ) → verify-block-lts.Need-is-clean-requires-2 (
-  judge-block-reads.Asked,
-  judge-block-reads.Learnt,
-  is-clean-reads.Asked,
-  is-clean-reads.Learnt,
-  first-of-reads.Asked,
-  first-of-reads.Learnt,
-  verify-operation-below t,
-  verify-operation.Post,
-  next-of-reads.Asked,
-  next-of-reads.Learnt,
-) (verify-block-at t) verify-block.Post verify-block-Inv-loop verify-block-μ-loop
+verify-block-is-clean-requires-2 : (t : ℕ) → verify-block-lts.Need-is-clean-requires-2 (verify-block-claims t) (verify-block-at t) verify-block.Post verify-block-Inv-loop verify-block-μ-loop
 verify-block-is-clean-requires-2 t c κs =
     search needs
 
-verify-block-returns-2 : (t : ℕ) → verify-block-lts.Need-returns-2 (
-  judge-block-reads.Asked,
-  judge-block-reads.Learnt,
-  is-clean-reads.Asked,
-  is-clean-reads.Learnt,
-  first-of-reads.Asked,
-  first-of-reads.Learnt,
-  verify-operation-below t,
-  verify-operation.Post,
-  next-of-reads.Asked,
-  next-of-reads.Learnt,
-) (verify-block-at t) verify-block.Post verify-block-Inv-loop verify-block-μ-loop
+verify-block-returns-2 : (t : ℕ) → verify-block-lts.Need-returns-2 (verify-block-claims t) (verify-block-at t) verify-block.Post verify-block-Inv-loop verify-block-μ-loop
 verify-block-returns-2 t c =
     block-hit (c .before .before .before .before .before .before .before .before .before .before .pre .1 .0) (c .before .before .before .before .before .before .before .before .before .before .args .b) (c .before .before .before .before .before .before .before .before .judge-block .result) (c .before .before .verify-operation .result) (c .before .before .before .before .before .before .before .before .judge-block .ensures .is) (sym (c .before .before .before .before .before .before .before .is-clean .ensures) ∙ yea (c .before .before .before .before .before .before .before .is-clean .result) (c .before .before .before .before .before .before .if1 .left)) (c .before .before .before .before .loop .inv) (c .before .before .before .loop-test .taken) (c .before .before .verify-operation .ensures) (sym (c .before .is-clean2 .ensures) ∙ nay (c .before .is-clean2 .result) (c .if2 .taken))
 
-verify-block-sub-next-of : (t : ℕ) → verify-block-lts.Need-sub-next-of (
-  judge-block-reads.Asked,
-  judge-block-reads.Learnt,
-  is-clean-reads.Asked,
-  is-clean-reads.Learnt,
-  first-of-reads.Asked,
-  first-of-reads.Learnt,
-  verify-operation-below t,
-  verify-operation.Post,
-  next-of-reads.Asked,
-  next-of-reads.Learnt,
-) (verify-block-at t) verify-block.Post verify-block-Inv-loop verify-block-μ-loop
+verify-block-sub-next-of : (t : ℕ) → verify-block-lts.Need-sub-next-of (verify-block-claims t) (verify-block-at t) verify-block.Post verify-block-Inv-loop verify-block-μ-loop
 verify-block-sub-next-of t c =
     search needs
 
-verify-block-next-of-requires : (t : ℕ) → verify-block-lts.Need-next-of-requires (
-  judge-block-reads.Asked,
-  judge-block-reads.Learnt,
-  is-clean-reads.Asked,
-  is-clean-reads.Learnt,
-  first-of-reads.Asked,
-  first-of-reads.Learnt,
-  verify-operation-below t,
-  verify-operation.Post,
-  next-of-reads.Asked,
-  next-of-reads.Learnt,
-) (verify-block-at t) verify-block.Post verify-block-Inv-loop verify-block-μ-loop
+verify-block-next-of-requires : (t : ℕ) → verify-block-lts.Need-next-of-requires (verify-block-claims t) (verify-block-at t) verify-block.Post verify-block-Inv-loop verify-block-μ-loop
 verify-block-next-of-requires t c κs =
     ((c .before .before .before .before .before .before .before .before .before .before .pre .1 .0) .well, here (c .before .before .before .before .before .before .before .before .before .before .pre .1 .0) (c .before .before .before .before .loop .inv .at) (c .before .before .before .loop-test .taken) .place)
 
-verify-block-loop-less : (t : ℕ) → verify-block-lts.Need-loop-less (
-  judge-block-reads.Asked,
-  judge-block-reads.Learnt,
-  is-clean-reads.Asked,
-  is-clean-reads.Learnt,
-  first-of-reads.Asked,
-  first-of-reads.Learnt,
-  verify-operation-below t,
-  verify-operation.Post,
-  next-of-reads.Asked,
-  next-of-reads.Learnt,
-) (verify-block-at t) verify-block.Post verify-block-Inv-loop verify-block-μ-loop
+verify-block-loop-less : (t : ℕ) → verify-block-lts.Need-loop-less (verify-block-claims t) (verify-block-at t) verify-block.Post verify-block-Inv-loop verify-block-μ-loop
 verify-block-loop-less t c =
     next-less (c .before .before .before .before .before .before .before .before .before .before .before .pre .1 .0) (c .before .before .before .before .before .loop .inv .at) (c .before .before .before .before .loop-test .taken) (c .next-of .result) (c .next-of .ensures)
 
-verify-block-loop-again : (t : ℕ) → verify-block-lts.Need-loop-again (
-  judge-block-reads.Asked,
-  judge-block-reads.Learnt,
-  is-clean-reads.Asked,
-  is-clean-reads.Learnt,
-  first-of-reads.Asked,
-  first-of-reads.Learnt,
-  verify-operation-below t,
-  verify-operation.Post,
-  next-of-reads.Asked,
-  next-of-reads.Learnt,
-) (verify-block-at t) verify-block.Post verify-block-Inv-loop verify-block-μ-loop
+verify-block-loop-again : (t : ℕ) → verify-block-lts.Need-loop-again (verify-block-claims t) (verify-block-at t) verify-block.Post verify-block-Inv-loop verify-block-μ-loop
 verify-block-loop-again t c =
     on (c .before .before .before .before .before .before .before .before .before .before .before .pre .1 .0) (c .before .before .before .before .before .loop .inv) (c .before .before .before .before .loop-test .taken) (ap is-clean (sym (c .before .before .before .verify-operation .ensures .is)) ∙ sym (c .before .before .is-clean2 .ensures) ∙ yea (c .before .before .is-clean2 .result) (c .before .if2 .left)) (c .next-of .result) (c .next-of .ensures)
 
-verify-block-returns-3 : (t : ℕ) → verify-block-lts.Need-returns-3 (
-  judge-block-reads.Asked,
-  judge-block-reads.Learnt,
-  is-clean-reads.Asked,
-  is-clean-reads.Learnt,
-  first-of-reads.Asked,
-  first-of-reads.Learnt,
-  verify-operation-below t,
-  verify-operation.Post,
-  next-of-reads.Asked,
-  next-of-reads.Learnt,
-) (verify-block-at t) verify-block.Post verify-block-Inv-loop verify-block-μ-loop
+verify-block-returns-3 : (t : ℕ) → verify-block-lts.Need-returns-3 (verify-block-claims t) (verify-block-at t) verify-block.Post verify-block-Inv-loop verify-block-μ-loop
 verify-block-returns-3 t c =
     block-end (c .before .before .before .before .before .before .before .pre .1 .0) (c .before .before .before .before .before .before .before .args .b) (c .before .before .before .before .before .judge-block .result) (c .before .before .before .before .before .judge-block .ensures .is) (sym (c .before .before .before .before .is-clean .ensures) ∙ yea (c .before .before .before .before .is-clean .result) (c .before .before .before .if1 .left)) (c .before .loop .inv) (c .loop-test .left)
 
@@ -311,64 +170,20 @@ abbrev verify-operation-μ-loop : verify-operation-lts.MeasureT-loop
 verify-operation-μ-loop m l o k₀ k =
     ahead l regs o m k
 
-verify-operation-first-of-requires : (t : ℕ) → verify-operation-lts.Need-first-of-requires (
-  first-of-reads.Asked,
-  first-of-reads.Learnt,
-  verify-region-below t,
-  verify-region.Post,
-  is-clean-reads.Asked,
-  is-clean-reads.Learnt,
-  next-of-reads.Asked,
-  next-of-reads.Learnt,
-  judge-end-reads.Asked,
-  judge-end-reads.Learnt,
-) (verify-operation-at t) verify-operation.Post verify-operation-Inv-loop verify-operation-μ-loop
+verify-operation-first-of-requires : (t : ℕ) → verify-operation-lts.Need-first-of-requires (verify-operation-claims t) (verify-operation-at t) verify-operation.Post verify-operation-Inv-loop verify-operation-μ-loop
 verify-operation-first-of-requires t c κs =
     ((c .before .pre .1 .0) .well, row< (in-op (c .before .args .l) (c .before .args .o)) (c .before .pre .1 .0) (c .before .pre .1 .1))
 
-verify-operation-loop-holds : (t : ℕ) → verify-operation-lts.Need-loop-holds (
-  first-of-reads.Asked,
-  first-of-reads.Learnt,
-  verify-region-below t,
-  verify-region.Post,
-  is-clean-reads.Asked,
-  is-clean-reads.Learnt,
-  next-of-reads.Asked,
-  next-of-reads.Learnt,
-  judge-end-reads.Asked,
-  judge-end-reads.Learnt,
-) (verify-operation-at t) verify-operation.Post verify-operation-Inv-loop verify-operation-μ-loop
+verify-operation-loop-holds : (t : ℕ) → verify-operation-lts.Need-loop-holds (verify-operation-claims t) (verify-operation-at t) verify-operation.Post verify-operation-Inv-loop verify-operation-μ-loop
 verify-operation-loop-holds t c =
     meeting _ (c .first-of .result) (c .first-of .ensures)
 
-verify-operation-sub-verify-region : (t : ℕ) → verify-operation-lts.Need-sub-verify-region (
-  first-of-reads.Asked,
-  first-of-reads.Learnt,
-  verify-region-below t,
-  verify-region.Post,
-  is-clean-reads.Asked,
-  is-clean-reads.Learnt,
-  next-of-reads.Asked,
-  next-of-reads.Learnt,
-  judge-end-reads.Asked,
-  judge-end-reads.Learnt,
-) (verify-operation-at t) verify-operation.Post verify-operation-Inv-loop verify-operation-μ-loop
+verify-operation-sub-verify-region : (t : ℕ) → verify-operation-lts.Need-sub-verify-region (verify-operation-claims t) (verify-operation-at t) verify-operation.Post verify-operation-Inv-loop verify-operation-μ-loop
 verify-operation-sub-verify-region t c =
     search needs
 
 verify-operation-verify-region-requires :
-    (t : ℕ) → verify-operation-lts.Need-verify-region-requires (
-      first-of-reads.Asked,
-      first-of-reads.Learnt,
-      verify-region-below t,
-      verify-region.Post,
-      is-clean-reads.Asked,
-      is-clean-reads.Learnt,
-      next-of-reads.Asked,
-      next-of-reads.Learnt,
-      judge-end-reads.Asked,
-      judge-end-reads.Learnt,
-    )
+    (t : ℕ) → verify-operation-lts.Need-verify-region-requires (verify-operation-claims t)
     (verify-operation-at t)
     verify-operation.Post
     verify-operation-Inv-loop
@@ -376,123 +191,35 @@ verify-operation-verify-region-requires :
 verify-operation-verify-region-requires t c κs =
     (omega (arith, c .before .before .before .before .pre .0, kid-falls (in-op (c .before .before .before .before .args .l) (c .before .before .before .before .args .o)) (c .before .before .before .before .pre .1 .0) (c .before .loop .inv .at) (c .loop-test .taken)), ((c .before .before .before .before .pre .1 .0), here (c .before .before .before .before .pre .1 .0) (c .before .loop .inv .at) (c .loop-test .taken) .live))
 
-verify-operation-is-clean-requires : (t : ℕ) → verify-operation-lts.Need-is-clean-requires (
-  first-of-reads.Asked,
-  first-of-reads.Learnt,
-  verify-region-below t,
-  verify-region.Post,
-  is-clean-reads.Asked,
-  is-clean-reads.Learnt,
-  next-of-reads.Asked,
-  next-of-reads.Learnt,
-  judge-end-reads.Asked,
-  judge-end-reads.Learnt,
-) (verify-operation-at t) verify-operation.Post verify-operation-Inv-loop verify-operation-μ-loop
+verify-operation-is-clean-requires : (t : ℕ) → verify-operation-lts.Need-is-clean-requires (verify-operation-claims t) (verify-operation-at t) verify-operation.Post verify-operation-Inv-loop verify-operation-μ-loop
 verify-operation-is-clean-requires t c κs =
     search needs
 
-verify-operation-returns : (t : ℕ) → verify-operation-lts.Need-returns (
-  first-of-reads.Asked,
-  first-of-reads.Learnt,
-  verify-region-below t,
-  verify-region.Post,
-  is-clean-reads.Asked,
-  is-clean-reads.Learnt,
-  next-of-reads.Asked,
-  next-of-reads.Learnt,
-  judge-end-reads.Asked,
-  judge-end-reads.Learnt,
-) (verify-operation-at t) verify-operation.Post verify-operation-Inv-loop verify-operation-μ-loop
+verify-operation-returns : (t : ℕ) → verify-operation-lts.Need-returns (verify-operation-claims t) (verify-operation-at t) verify-operation.Post verify-operation-Inv-loop verify-operation-μ-loop
 verify-operation-returns t c =
     op-hit (c .before .before .before .before .before .before .before .pre .1 .0) (c .before .before .before .before .before .before .before .args .o) (c .before .before .verify-region .result) (c .before .before .before .before .before .before .before .pre .1 .1) (c .before .before .before .before .loop .inv) (c .before .before .before .loop-test .taken) (c .before .before .verify-region .ensures) (sym (c .before .is-clean .ensures) ∙ nay (c .before .is-clean .result) (c .if1 .taken))
 
-verify-operation-sub-next-of : (t : ℕ) → verify-operation-lts.Need-sub-next-of (
-  first-of-reads.Asked,
-  first-of-reads.Learnt,
-  verify-region-below t,
-  verify-region.Post,
-  is-clean-reads.Asked,
-  is-clean-reads.Learnt,
-  next-of-reads.Asked,
-  next-of-reads.Learnt,
-  judge-end-reads.Asked,
-  judge-end-reads.Learnt,
-) (verify-operation-at t) verify-operation.Post verify-operation-Inv-loop verify-operation-μ-loop
+verify-operation-sub-next-of : (t : ℕ) → verify-operation-lts.Need-sub-next-of (verify-operation-claims t) (verify-operation-at t) verify-operation.Post verify-operation-Inv-loop verify-operation-μ-loop
 verify-operation-sub-next-of t c =
     search needs
 
-verify-operation-next-of-requires : (t : ℕ) → verify-operation-lts.Need-next-of-requires (
-  first-of-reads.Asked,
-  first-of-reads.Learnt,
-  verify-region-below t,
-  verify-region.Post,
-  is-clean-reads.Asked,
-  is-clean-reads.Learnt,
-  next-of-reads.Asked,
-  next-of-reads.Learnt,
-  judge-end-reads.Asked,
-  judge-end-reads.Learnt,
-) (verify-operation-at t) verify-operation.Post verify-operation-Inv-loop verify-operation-μ-loop
+verify-operation-next-of-requires : (t : ℕ) → verify-operation-lts.Need-next-of-requires (verify-operation-claims t) (verify-operation-at t) verify-operation.Post verify-operation-Inv-loop verify-operation-μ-loop
 verify-operation-next-of-requires t c κs =
     ((c .before .before .before .before .before .before .before .pre .1 .0) .well, here (c .before .before .before .before .before .before .before .pre .1 .0) (c .before .before .before .before .loop .inv .at) (c .before .before .before .loop-test .taken) .place)
 
-verify-operation-loop-less : (t : ℕ) → verify-operation-lts.Need-loop-less (
-  first-of-reads.Asked,
-  first-of-reads.Learnt,
-  verify-region-below t,
-  verify-region.Post,
-  is-clean-reads.Asked,
-  is-clean-reads.Learnt,
-  next-of-reads.Asked,
-  next-of-reads.Learnt,
-  judge-end-reads.Asked,
-  judge-end-reads.Learnt,
-) (verify-operation-at t) verify-operation.Post verify-operation-Inv-loop verify-operation-μ-loop
+verify-operation-loop-less : (t : ℕ) → verify-operation-lts.Need-loop-less (verify-operation-claims t) (verify-operation-at t) verify-operation.Post verify-operation-Inv-loop verify-operation-μ-loop
 verify-operation-loop-less t c =
     next-less (c .before .before .before .before .before .before .before .before .pre .1 .0) (c .before .before .before .before .before .loop .inv .at) (c .before .before .before .before .loop-test .taken) (c .next-of .result) (c .next-of .ensures)
 
-verify-operation-loop-again : (t : ℕ) → verify-operation-lts.Need-loop-again (
-  first-of-reads.Asked,
-  first-of-reads.Learnt,
-  verify-region-below t,
-  verify-region.Post,
-  is-clean-reads.Asked,
-  is-clean-reads.Learnt,
-  next-of-reads.Asked,
-  next-of-reads.Learnt,
-  judge-end-reads.Asked,
-  judge-end-reads.Learnt,
-) (verify-operation-at t) verify-operation.Post verify-operation-Inv-loop verify-operation-μ-loop
+verify-operation-loop-again : (t : ℕ) → verify-operation-lts.Need-loop-again (verify-operation-claims t) (verify-operation-at t) verify-operation.Post verify-operation-Inv-loop verify-operation-μ-loop
 verify-operation-loop-again t c =
     on (c .before .before .before .before .before .before .before .before .pre .1 .0) (c .before .before .before .before .before .loop .inv) (c .before .before .before .before .loop-test .taken) (ap is-clean (sym (c .before .before .before .verify-region .ensures .is)) ∙ sym (c .before .before .is-clean .ensures) ∙ yea (c .before .before .is-clean .result) (c .before .if1 .left)) (c .next-of .result) (c .next-of .ensures)
 
-verify-operation-judge-end-requires : (t : ℕ) → verify-operation-lts.Need-judge-end-requires (
-  first-of-reads.Asked,
-  first-of-reads.Learnt,
-  verify-region-below t,
-  verify-region.Post,
-  is-clean-reads.Asked,
-  is-clean-reads.Learnt,
-  next-of-reads.Asked,
-  next-of-reads.Learnt,
-  judge-end-reads.Asked,
-  judge-end-reads.Learnt,
-) (verify-operation-at t) verify-operation.Post verify-operation-Inv-loop verify-operation-μ-loop
+verify-operation-judge-end-requires : (t : ℕ) → verify-operation-lts.Need-judge-end-requires (verify-operation-claims t) (verify-operation-at t) verify-operation.Post verify-operation-Inv-loop verify-operation-μ-loop
 verify-operation-judge-end-requires t c κs =
     c .before .before .before .before .pre .1
 
-verify-operation-returns-2 : (t : ℕ) → verify-operation-lts.Need-returns-2 (
-  first-of-reads.Asked,
-  first-of-reads.Learnt,
-  verify-region-below t,
-  verify-region.Post,
-  is-clean-reads.Asked,
-  is-clean-reads.Learnt,
-  next-of-reads.Asked,
-  next-of-reads.Learnt,
-  judge-end-reads.Asked,
-  judge-end-reads.Learnt,
-) (verify-operation-at t) verify-operation.Post verify-operation-Inv-loop verify-operation-μ-loop
+verify-operation-returns-2 : (t : ℕ) → verify-operation-lts.Need-returns-2 (verify-operation-claims t) (verify-operation-at t) verify-operation.Post verify-operation-Inv-loop verify-operation-μ-loop
 verify-operation-returns-2 t c =
     op-end (c .before .before .before .before .before .pre .1 .0) (c .before .before .before .before .before .args .o) (c .judge-end .result) (c .before .before .before .before .before .pre .1 .1) (c .before .before .loop .inv) (c .before .loop-test .left) (c .judge-end .ensures)
 
@@ -504,163 +231,53 @@ abbrev verify-region-μ-loop : verify-region-lts.MeasureT-loop
 verify-region-μ-loop m l r k₀ k =
     ahead l blocksIn r m k
 
-verify-region-first-of-requires : (t : ℕ) → verify-region-lts.Need-first-of-requires (
-  first-of-reads.Asked,
-  first-of-reads.Learnt,
-  verify-block-below t,
-  verify-block.Post,
-  is-clean-reads.Asked,
-  is-clean-reads.Learnt,
-  next-of-reads.Asked,
-  next-of-reads.Learnt,
-) (verify-region-at t) verify-region.Post verify-region-Inv-loop verify-region-μ-loop
+verify-region-first-of-requires : (t : ℕ) → verify-region-lts.Need-first-of-requires (verify-region-claims t) (verify-region-at t) verify-region.Post verify-region-Inv-loop verify-region-μ-loop
 verify-region-first-of-requires t c κs =
     ((c .before .pre .1 .0) .well, row< (in-region (c .before .args .l) (c .before .args .r)) (c .before .pre .1 .0) (c .before .pre .1 .1))
 
-verify-region-loop-holds : (t : ℕ) → verify-region-lts.Need-loop-holds (
-  first-of-reads.Asked,
-  first-of-reads.Learnt,
-  verify-block-below t,
-  verify-block.Post,
-  is-clean-reads.Asked,
-  is-clean-reads.Learnt,
-  next-of-reads.Asked,
-  next-of-reads.Learnt,
-) (verify-region-at t) verify-region.Post verify-region-Inv-loop verify-region-μ-loop
+verify-region-loop-holds : (t : ℕ) → verify-region-lts.Need-loop-holds (verify-region-claims t) (verify-region-at t) verify-region.Post verify-region-Inv-loop verify-region-μ-loop
 verify-region-loop-holds t c =
     meeting _ (c .first-of .result) (c .first-of .ensures)
 
-verify-region-sub-verify-block : (t : ℕ) → verify-region-lts.Need-sub-verify-block (
-  first-of-reads.Asked,
-  first-of-reads.Learnt,
-  verify-block-below t,
-  verify-block.Post,
-  is-clean-reads.Asked,
-  is-clean-reads.Learnt,
-  next-of-reads.Asked,
-  next-of-reads.Learnt,
-) (verify-region-at t) verify-region.Post verify-region-Inv-loop verify-region-μ-loop
+verify-region-sub-verify-block : (t : ℕ) → verify-region-lts.Need-sub-verify-block (verify-region-claims t) (verify-region-at t) verify-region.Post verify-region-Inv-loop verify-region-μ-loop
 verify-region-sub-verify-block t c =
     search needs
 
-verify-region-verify-block-requires : (t : ℕ) → verify-region-lts.Need-verify-block-requires (
-  first-of-reads.Asked,
-  first-of-reads.Learnt,
-  verify-block-below t,
-  verify-block.Post,
-  is-clean-reads.Asked,
-  is-clean-reads.Learnt,
-  next-of-reads.Asked,
-  next-of-reads.Learnt,
-) (verify-region-at t) verify-region.Post verify-region-Inv-loop verify-region-μ-loop
+verify-region-verify-block-requires : (t : ℕ) → verify-region-lts.Need-verify-block-requires (verify-region-claims t) (verify-region-at t) verify-region.Post verify-region-Inv-loop verify-region-μ-loop
 verify-region-verify-block-requires t c κs =
     (omega (arith, c .before .before .before .before .pre .0, kid-falls (in-region (c .before .before .before .before .args .l) (c .before .before .before .before .args .r)) (c .before .before .before .before .pre .1 .0) (c .before .loop .inv .at) (c .loop-test .taken)), ((c .before .before .before .before .pre .1 .0), here (c .before .before .before .before .pre .1 .0) (c .before .loop .inv .at) (c .loop-test .taken) .live))
 
-verify-region-is-clean-requires : (t : ℕ) → verify-region-lts.Need-is-clean-requires (
-  first-of-reads.Asked,
-  first-of-reads.Learnt,
-  verify-block-below t,
-  verify-block.Post,
-  is-clean-reads.Asked,
-  is-clean-reads.Learnt,
-  next-of-reads.Asked,
-  next-of-reads.Learnt,
-) (verify-region-at t) verify-region.Post verify-region-Inv-loop verify-region-μ-loop
+verify-region-is-clean-requires : (t : ℕ) → verify-region-lts.Need-is-clean-requires (verify-region-claims t) (verify-region-at t) verify-region.Post verify-region-Inv-loop verify-region-μ-loop
 verify-region-is-clean-requires t c κs =
     search needs
 
-verify-region-returns : (t : ℕ) → verify-region-lts.Need-returns (
-  first-of-reads.Asked,
-  first-of-reads.Learnt,
-  verify-block-below t,
-  verify-block.Post,
-  is-clean-reads.Asked,
-  is-clean-reads.Learnt,
-  next-of-reads.Asked,
-  next-of-reads.Learnt,
-) (verify-region-at t) verify-region.Post verify-region-Inv-loop verify-region-μ-loop
+verify-region-returns : (t : ℕ) → verify-region-lts.Need-returns (verify-region-claims t) (verify-region-at t) verify-region.Post verify-region-Inv-loop verify-region-μ-loop
 verify-region-returns t c =
     region-hit (c .before .before .before .before .before .before .before .pre .1 .0) (c .before .before .before .before .before .before .before .args .r) (c .before .before .verify-block .result) (c .before .before .before .before .loop .inv) (c .before .before .before .loop-test .taken) (c .before .before .verify-block .ensures) (sym (c .before .is-clean .ensures) ∙ nay (c .before .is-clean .result) (c .if1 .taken))
 
-verify-region-sub-next-of : (t : ℕ) → verify-region-lts.Need-sub-next-of (
-  first-of-reads.Asked,
-  first-of-reads.Learnt,
-  verify-block-below t,
-  verify-block.Post,
-  is-clean-reads.Asked,
-  is-clean-reads.Learnt,
-  next-of-reads.Asked,
-  next-of-reads.Learnt,
-) (verify-region-at t) verify-region.Post verify-region-Inv-loop verify-region-μ-loop
+verify-region-sub-next-of : (t : ℕ) → verify-region-lts.Need-sub-next-of (verify-region-claims t) (verify-region-at t) verify-region.Post verify-region-Inv-loop verify-region-μ-loop
 verify-region-sub-next-of t c =
     search needs
 
-verify-region-next-of-requires : (t : ℕ) → verify-region-lts.Need-next-of-requires (
-  first-of-reads.Asked,
-  first-of-reads.Learnt,
-  verify-block-below t,
-  verify-block.Post,
-  is-clean-reads.Asked,
-  is-clean-reads.Learnt,
-  next-of-reads.Asked,
-  next-of-reads.Learnt,
-) (verify-region-at t) verify-region.Post verify-region-Inv-loop verify-region-μ-loop
+verify-region-next-of-requires : (t : ℕ) → verify-region-lts.Need-next-of-requires (verify-region-claims t) (verify-region-at t) verify-region.Post verify-region-Inv-loop verify-region-μ-loop
 verify-region-next-of-requires t c κs =
     ((c .before .before .before .before .before .before .before .pre .1 .0) .well, here (c .before .before .before .before .before .before .before .pre .1 .0) (c .before .before .before .before .loop .inv .at) (c .before .before .before .loop-test .taken) .place)
 
-verify-region-loop-less : (t : ℕ) → verify-region-lts.Need-loop-less (
-  first-of-reads.Asked,
-  first-of-reads.Learnt,
-  verify-block-below t,
-  verify-block.Post,
-  is-clean-reads.Asked,
-  is-clean-reads.Learnt,
-  next-of-reads.Asked,
-  next-of-reads.Learnt,
-) (verify-region-at t) verify-region.Post verify-region-Inv-loop verify-region-μ-loop
+verify-region-loop-less : (t : ℕ) → verify-region-lts.Need-loop-less (verify-region-claims t) (verify-region-at t) verify-region.Post verify-region-Inv-loop verify-region-μ-loop
 verify-region-loop-less t c =
     next-less (c .before .before .before .before .before .before .before .before .pre .1 .0) (c .before .before .before .before .before .loop .inv .at) (c .before .before .before .before .loop-test .taken) (c .next-of .result) (c .next-of .ensures)
 
-verify-region-loop-again : (t : ℕ) → verify-region-lts.Need-loop-again (
-  first-of-reads.Asked,
-  first-of-reads.Learnt,
-  verify-block-below t,
-  verify-block.Post,
-  is-clean-reads.Asked,
-  is-clean-reads.Learnt,
-  next-of-reads.Asked,
-  next-of-reads.Learnt,
-) (verify-region-at t) verify-region.Post verify-region-Inv-loop verify-region-μ-loop
+verify-region-loop-again : (t : ℕ) → verify-region-lts.Need-loop-again (verify-region-claims t) (verify-region-at t) verify-region.Post verify-region-Inv-loop verify-region-μ-loop
 verify-region-loop-again t c =
     on (c .before .before .before .before .before .before .before .before .pre .1 .0) (c .before .before .before .before .before .loop .inv) (c .before .before .before .before .loop-test .taken) (ap is-clean (sym (c .before .before .before .verify-block .ensures .is)) ∙ sym (c .before .before .is-clean .ensures) ∙ yea (c .before .before .is-clean .result) (c .before .if1 .left)) (c .next-of .result) (c .next-of .ensures)
 
-verify-region-returns-2 : (t : ℕ) → verify-region-lts.Need-returns-2 (
-  first-of-reads.Asked,
-  first-of-reads.Learnt,
-  verify-block-below t,
-  verify-block.Post,
-  is-clean-reads.Asked,
-  is-clean-reads.Learnt,
-  next-of-reads.Asked,
-  next-of-reads.Learnt,
-) (verify-region-at t) verify-region.Post verify-region-Inv-loop verify-region-μ-loop
+verify-region-returns-2 : (t : ℕ) → verify-region-lts.Need-returns-2 (verify-region-claims t) (verify-region-at t) verify-region.Post verify-region-Inv-loop verify-region-μ-loop
 verify-region-returns-2 t c =
     region-end (c .before .before .before .before .pre .1 .0) (c .before .before .before .before .args .r) (c .before .loop .inv) (c .loop-test .left)
 
 pub +verify-block+verify-operation+verify-region-spec : {M : Type 1} → statement M
 +verify-block+verify-operation+verify-region-spec =
-    close μ-verify-block μ-verify-operation μ-verify-region (λ t. verify-block-lts.spec (
-      judge-block-reads.Asked,
-      judge-block-reads.Learnt,
-      is-clean-reads.Asked,
-      is-clean-reads.Learnt,
-      first-of-reads.Asked,
-      first-of-reads.Learnt,
-      verify-operation-below t,
-      verify-operation.Post,
-      next-of-reads.Asked,
-      next-of-reads.Learnt,
-    )
+    close μ-verify-block μ-verify-operation μ-verify-region (λ t. verify-block-lts.spec (verify-block-claims t)
     (verify-block-at t)
     verify-block.Post
     verify-block-Inv-loop
@@ -679,18 +296,7 @@ pub +verify-block+verify-operation+verify-region-spec : {M : Type 1} → stateme
     (verify-block-loop-less t)
     (verify-block-loop-again t)
     (verify-block-returns-3 t))
-    (λ t. verify-operation-lts.spec (
-      first-of-reads.Asked,
-      first-of-reads.Learnt,
-      verify-region-below t,
-      verify-region.Post,
-      is-clean-reads.Asked,
-      is-clean-reads.Learnt,
-      next-of-reads.Asked,
-      next-of-reads.Learnt,
-      judge-end-reads.Asked,
-      judge-end-reads.Learnt,
-    )
+    (λ t. verify-operation-lts.spec (verify-operation-claims t)
     (verify-operation-at t)
     verify-operation.Post
     verify-operation-Inv-loop
@@ -707,16 +313,7 @@ pub +verify-block+verify-operation+verify-region-spec : {M : Type 1} → stateme
     (verify-operation-loop-again t)
     (verify-operation-judge-end-requires t)
     (verify-operation-returns-2 t))
-    λ t. verify-region-lts.spec (
-      first-of-reads.Asked,
-      first-of-reads.Learnt,
-      verify-block-below t,
-      verify-block.Post,
-      is-clean-reads.Asked,
-      is-clean-reads.Learnt,
-      next-of-reads.Asked,
-      next-of-reads.Learnt,
-    )
+    λ t. verify-region-lts.spec (verify-region-claims t)
     (verify-region-at t)
     verify-region.Post
     verify-region-Inv-loop

@@ -105,10 +105,11 @@ fn main() {
         fs::write(out.join("faults.rs"), faults(&here, &out)).unwrap();
     }
     if env::var("CARGO_FEATURE_STORE").is_ok() {
-        let library = PathBuf::from(env::var("RECIPE_LIB").expect("RECIPE_LIB names the static library, a file lib*.a"));
+        let library = PathBuf::from(env::var("RECIPE_LIB").expect("RECIPE_LIB names the library, a file lib*.a, or lib*.so for mutate_store.sh"));
+        let kind = if library.extension().is_some_and(|e| e == "so") { "dylib" } else { "static" };
         println!("cargo:rerun-if-changed={}", library.display());
-        let name = library.file_stem().unwrap().to_str().unwrap().strip_prefix("lib").expect("a file lib*.a");
+        let name = library.file_stem().unwrap().to_str().unwrap().strip_prefix("lib").expect("a file lib*");
         println!("cargo:rustc-link-search=native={}", library.parent().unwrap().display());
-        println!("cargo:rustc-link-lib=static={name}");
+        println!("cargo:rustc-link-lib={kind}={name}");
     }
 }

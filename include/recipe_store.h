@@ -7,6 +7,9 @@
 #include <stddef.h>
 #include <stdint.h>
 
+/* How many 32-bit words a store with these capacities needs; 0 where a capacity is 0 or over its limit. */
+size_t recipe_words(uint32_t ops, uint32_t blocks, uint32_t regions, uint32_t values, uint32_t uses);
+
 /* Starts an empty store: 0, or 5 where a capacity is 0 or over its limit, or the buffer is too short. */
 uint32_t recipe_start(uint32_t *store, size_t store_len, uint32_t ops, uint32_t blocks, uint32_t regions, uint32_t values, uint32_t uses);
 
@@ -23,5 +26,12 @@ bool recipe_check(const uint32_t *store, size_t store_len);
 
 /* The listing of the answers and of the store, as far as `out` has room: its length; 0 if the store is not sound. */
 size_t recipe_listing(const uint32_t *store, size_t store_len, const uint32_t *answers, size_t answers_len, uint8_t *out, size_t out_len);
+
+/* The numbers of the uses of a value, rising, in front of `uses`; `count` gets how many. 6, 10 if no such value is live, 22 if `uses` is too short;
+   a refusal keeps `uses` and sets `count` to 0. */
+uint32_t recipe_value_uses(const uint32_t *store, size_t store_len, uint32_t value, uint32_t *uses, size_t uses_len, uint64_t *count);
+
+/* The numbers of the uses of a block, likewise; 8 if no such block is live. */
+uint32_t recipe_block_uses(const uint32_t *store, size_t store_len, uint32_t block, uint32_t *uses, size_t uses_len, uint64_t *count);
 
 #endif

@@ -21,21 +21,42 @@ fn first_line(a: &str, who_a: &str, b: &str, who_b: &str) -> Option<Difference> 
     Some(format!("{front} .. {who_a}:{} | {who_b}:{}", part(x), part(y)))
 }
 
+/// What the second reading says of a script: the answers, the store after it, the listing.
+pub struct Expected {
+    pub answers: Vec<[u32; 3]>,
+    pub store: reading::Store,
+    pub listing: String,
+}
+
+pub fn expected(script: &[u8], capacities: Capacities) -> Expected {
+    let mut store = reading::start(capacities, reading::words(capacities)).unwrap();
+    let (answers, _) = store.script(script, capacities[0] as usize, usize::MAX);
+    let listing = store.listing(&answers);
+    Expected { answers, store, listing }
+}
+
 /// The Rust against the second reading and, with the feature, the proved store.
 pub fn difference(script: &[u8], capacities: Capacities) -> Option<Difference> {
-    let run = || -> Option<Difference> {
-        let rust = match replay::listing_of(script, capacities) {
-            Ok(listing) => listing,
-            Err(why) => return Some(why),
+    compare(script, capacities).1
+}
+
+/// The kind and the reply of each record, by the second reading, and the first difference.
+pub fn compare(script: &[u8], capacities: Capacities) -> (Vec<Met>, Option<Difference>) {
+    let run = || -> (Vec<Met>, Option<Difference>) {
+        let second = expected(script, capacities);
+        let met = pairs(script, &second.answers);
+        let (rust, listing) = match replay::run(script, capacities) {
+            Ok(given) => given,
+            Err(why) => return (met, Some(why)),
         };
-        let second = reading::listing_of(script, capacities);
         #[cfg(feature = "store")]
-        if let Some(d) = crate::store::difference(script, capacities) {
-            return Some(d);
+        if let Some(d) = crate::store::difference(script, capacities, &second, &rust) {
+            return (met, Some(d));
         }
-        first_line(&rust, "the Rust", &second, "the second reading")
+        drop(rust);
+        (met, first_line(&listing, "the Rust", &second.listing, "the second reading"))
     };
-    catch_unwind(run).unwrap_or_else(|_| Some(format!("stopped: {:?}", crate::published::last_panic())))
+    catch_unwind(run).unwrap_or_else(|_| (vec![], Some(format!("stopped: {:?}", crate::published::last_panic()))))
 }
 
 /// Leaves out records, first many at a time, as long as `fails`.
@@ -92,15 +113,17 @@ pub type Coverage = BTreeMap<Met, u64>;
 
 /// The kind and the reply of each record, by the second reading.
 pub fn met(script: &[u8], capacities: Capacities) -> Vec<Met> {
-    let mut store = reading::start(capacities, reading::words(capacities)).unwrap();
-    let (answers, _) = store.script(script, capacities[0] as usize, usize::MAX);
+    pairs(script, &expected(script, capacities).answers)
+}
+
+fn pairs(script: &[u8], answers: &[[u32; 3]]) -> Vec<Met> {
     let kinds = pieces(script).into_iter().map(|p| u16::from_le_bytes([p.get(2).copied().unwrap_or(0), p.get(3).copied().unwrap_or(0)]));
     let pair = |(kind, a): (u16, &[u32; 3])| match (kind, a[0]) {
         (_, 1 | 2) => (0, a[0]),
         (42..=44, 0) => (kind, 100 + a[1]),
         _ => (kind, a[0]),
     };
-    kinds.zip(&answers).map(pair).collect()
+    kinds.zip(answers).map(pair).collect()
 }
 
 /// Every kind with every reply that can come up in a script over a sound store with unspent numbers.

@@ -3,6 +3,7 @@
 
 mod library {
     unsafe extern "C" {
+        pub fn recipe_words(ops: u32, blocks: u32, regions: u32, values: u32, uses: u32) -> usize;
         pub fn recipe_start(store: *mut u32, store_len: usize, ops: u32, blocks: u32, regions: u32, values: u32, uses: u32) -> u32;
         pub fn recipe_edit(
             store: *mut u32,
@@ -27,7 +28,14 @@ mod library {
         ) -> u32;
         pub fn recipe_check(store: *const u32, store_len: usize) -> bool;
         pub fn recipe_listing(store: *const u32, store_len: usize, answers: *const u32, answers_len: usize, out: *mut u8, out_len: usize) -> usize;
+        pub fn recipe_value_uses(store: *const u32, store_len: usize, value: u32, uses: *mut u32, uses_len: usize, count: *mut u64) -> u32;
+        pub fn recipe_block_uses(store: *const u32, store_len: usize, block: u32, uses: *mut u32, uses_len: usize, count: *mut u64) -> u32;
     }
+}
+
+/// The words that a store of these capacities takes; 0 where they are not allowed.
+pub fn words([ops, blocks, regions, values, uses]: [u32; 5]) -> usize {
+    unsafe { library::recipe_words(ops, blocks, regions, values, uses) }
 }
 
 /// 0, or refusal 5.
@@ -49,17 +57,7 @@ pub fn script(store: &mut [u32], scratch: &mut [u32], script: &[u8], answers: &m
     let mut count = u64::MAX;
     let (s, n) = (store.as_mut_ptr(), store.len());
     let code = unsafe {
-        library::recipe_script(
-            s,
-            n,
-            scratch.as_mut_ptr(),
-            scratch.len(),
-            script.as_ptr(),
-            script.len(),
-            answers.as_mut_ptr(),
-            answers.len(),
-            &mut count,
-        )
+        library::recipe_script(s, n, scratch.as_mut_ptr(), scratch.len(), script.as_ptr(), script.len(), answers.as_mut_ptr(), answers.len(), &mut count)
     };
     [code, u32::try_from(count).expect("a count of answers")]
 }
@@ -71,4 +69,12 @@ pub fn is_sound(store: &[u32]) -> bool {
 /// The listing of a store after these answers, written to the front of `out`: its length.
 pub fn listing(store: &[u32], answers: &[u32], out: &mut [u8]) -> usize {
     unsafe { library::recipe_listing(store.as_ptr(), store.len(), answers.as_ptr(), answers.len(), out.as_mut_ptr(), out.len()) }
+}
+
+/// The uses of a value or a block, written to the front of `uses`: 0 or the refusal, and the count.
+pub fn uses_of(store: &[u32], block: bool, number: u32, uses: &mut [u32]) -> (u32, u64) {
+    let mut count = u64::MAX;
+    let call = if block { library::recipe_block_uses } else { library::recipe_value_uses };
+    let code = unsafe { call(store.as_ptr(), store.len(), number, uses.as_mut_ptr(), uses.len(), &mut count) };
+    (code, count)
 }

@@ -21,6 +21,7 @@ pub mod utils {
 // ours
 pub mod added;
 pub mod compare;
+pub mod definitions;
 #[cfg(feature = "store")]
 pub mod interface;
 pub mod published;

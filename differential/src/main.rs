@@ -1,5 +1,5 @@
 //! Commands: see README.md.
-use differential::{compare::*, published::quiet_panics, reading, record, recorded, replay, scripts, small};
+use differential::{compare::*, definitions, published::quiet_panics, reading, record, recorded, replay, scripts, small};
 use std::{
     collections::{BTreeMap, HashSet},
     io::Read,
@@ -17,20 +17,21 @@ fn report(name: &str, seed: u64, script: &[u8], capacities: reading::Capacities,
     println!("  shrunk: {}\n  bytes: {}\n  {}", text(&small), hex(&small), difference(&small, capacities).unwrap());
 }
 
-/// n scripts from a seed on.
-fn run(n: u64, seed: u64) -> usize {
+/// n scripts from a seed on, each of at most so many records.
+fn run(n: u64, seed: u64, longest: usize) -> usize {
     let (mut coverage, mut differ, mut bytes, begun) = (Coverage::new(), 0, 0, Instant::now());
     let mut by_profile: BTreeMap<&str, u64> = BTreeMap::new();
     let mut distinct = HashSet::new();
     for s in seed..seed + n {
-        let (script, name, capacities) = scripts::script(s);
+        let (script, name, capacities) = scripts::script(s, longest);
         *by_profile.entry(name).or_default() += 1;
         bytes += script.len();
         distinct.insert(fnv(&script));
-        for m in met(&script, capacities) {
+        let (met, d) = compare(&script, capacities);
+        for m in met {
             *coverage.entry(m).or_default() += 1;
         }
-        if let Some(d) = difference(&script, capacities) {
+        if let Some(d) = d {
             differ += 1;
             if differ <= 5 {
                 report(name, s, &script, capacities, &d);
@@ -47,6 +48,20 @@ fn run(n: u64, seed: u64) -> usize {
         begun.elapsed().as_secs_f64()
     );
     differ
+}
+
+/// The first script that differs, and how many it took.
+fn first(n: u64, seed: u64, longest: usize) -> usize {
+    let shown = |s: u64| {
+        let (script, name, capacities) = scripts::script(s, longest);
+        difference(&script, capacities).map(|d| (s - seed + 1, name, d))
+    };
+    let found = (seed..seed + n).find_map(shown);
+    match &found {
+        Some((k, name, d)) => println!("{k}\t{name}\t{d}"),
+        None => println!("no difference in {n} scripts"),
+    }
+    found.is_some() as usize
 }
 
 /// The listing of the Rust, or of the second reading, of the script on standard input (bytes, or text after --text).
@@ -82,7 +97,7 @@ fn faults(most: u64, seed: u64) -> usize {
     let mut missed = 0;
     for (name, faulty) in differential::faults::FAULTS {
         let shown = |s: u64| {
-            let (script, profile, capacities) = scripts::script(s);
+            let (script, profile, capacities) = scripts::script(s, scripts::LONGEST);
             let good = replay::listing_of(&script, capacities).unwrap();
             (catch_unwind(|| faulty(&script, capacities)).ok() != Some(good)).then_some(profile)
         };
@@ -104,7 +119,8 @@ fn main() {
     let args: Vec<String> = std::env::args().skip(1).collect();
     let command = args.first().map_or("", |a| a.as_str());
     let failures = match command {
-        "run" => run(number(&args, 1, 1000), number(&args, 2, 1)),
+        "run" => run(number(&args, 1, 1000), number(&args, 2, 1), number(&args, 3, scripts::LONGEST as u64) as usize),
+        "first" => first(number(&args, 1, 1000), number(&args, 2, 1), number(&args, 3, scripts::LONGEST as u64) as usize),
         "pairs" => {
             let (steps, differ) = small::pairs(number(&args, 1, 3) as u32);
             differ.iter().take(20).for_each(|d| println!("DIFFERS {d}"));
@@ -119,11 +135,17 @@ fn main() {
             record(&args[1]);
             0
         }
+        "definitions" => {
+            definitions::write(args[1].as_ref(), number(&args, 2, 400), number(&args, 3, 1), number(&args, 4, 16_385) as usize).unwrap();
+            0
+        }
         #[cfg(feature = "faults")]
         "faults" => faults(number(&args, 1, 20_000), number(&args, 2, 1)),
         #[cfg(feature = "store")]
         "damage" => differential::store::damage(number(&args, 1, 1000), number(&args, 2, 1)),
-        _ => panic!("commands: run N SEED, pairs N, show [--text] [--second], record FILE, faults N SEED, damage N SEED"),
+        _ => panic!(
+            "commands: run N SEED LONGEST, first N SEED LONGEST, pairs N, show [--text] [--second], record FILE, definitions FOLDER N SEED LONGEST, faults N SEED, damage N SEED"
+        ),
     };
     exit((failures > 0) as i32);
 }

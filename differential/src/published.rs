@@ -122,6 +122,16 @@ impl Published {
     pub fn live_uses(&self) -> usize {
         self.ctx.operations.values().map(|o| o.borrow()).map(|o| o.operands.len() + o.successors.len()).sum()
     }
+    /// The Rust's own set of uses of a live value or block, rising.
+    pub fn uses_of(&self, block: bool, n: u32) -> Vec<u32> {
+        let mut uses: Vec<u32> = if block {
+            self.block(n).uses(&self.ctx).iter().map(|u| u.use_uid as u32).collect()
+        } else {
+            self.value(n).uses(&self.ctx).iter().map(|u| u.use_uid as u32).collect()
+        };
+        uses.sort();
+        uses
+    }
     fn op_number(&self, p: Ptr<Operation>) -> u32 {
         match p.deref(&self.ctx).loc() {
             Location::Op(n) => *n,

@@ -17,7 +17,7 @@ pub const REGIONS: usize = 2;
 pub const VALUES: usize = 3;
 pub const USES: usize = 4;
 
-#[derive(Clone, Default, Debug)]
+#[derive(Clone, Default, Debug, PartialEq)]
 pub struct Op {
     pub flags: u32,
     pub block: Option<u32>,
@@ -28,20 +28,20 @@ pub struct Op {
     pub regions: Vec<u32>,
 }
 
-#[derive(Clone, Default, Debug)]
+#[derive(Clone, Default, Debug, PartialEq)]
 pub struct Block {
     pub region: Option<u32>,
     pub arguments: Vec<u32>,
     pub ops: Vec<u32>,
 }
 
-#[derive(Clone, Default, Debug)]
+#[derive(Clone, Default, Debug, PartialEq)]
 pub struct Region {
     pub op: u32,
     pub blocks: Vec<u32>,
 }
 
-#[derive(Clone, Debug)]
+#[derive(Clone, Debug, PartialEq)]
 pub struct Store {
     pub capacities: Capacities,
     /// Births so far in each kind: the next birth numbers.
@@ -131,9 +131,20 @@ impl Store {
     fn value(&self, n: u32) -> Result<(), u32> {
         need(self.values.contains_key(&n), 10)
     }
-    fn live(&self) -> [usize; 5] {
+    /// How many are live, by kind.
+    pub fn live(&self) -> [usize; 5] {
         let uses = self.ops.values().map(|o| o.operands.len() + o.successors.len()).sum();
         [self.ops.len(), self.blocks.len(), self.regions.len(), self.values.len(), uses]
+    }
+    /// The birth numbers of what is live of a kind.
+    pub fn numbers_of(&self, kind: usize) -> Box<dyn Iterator<Item = u32> + '_> {
+        match kind {
+            OPS => Box::new(self.ops.keys().copied()),
+            BLOCKS => Box::new(self.blocks.keys().copied()),
+            REGIONS => Box::new(self.regions.keys().copied()),
+            VALUES => Box::new(self.values.keys().copied()),
+            _ => Box::new(self.ops.values().flat_map(|o| o.operands.iter().chain(&o.successors).map(|x| x.0))),
+        }
     }
 
     // ---- births

@@ -2,8 +2,9 @@
 //! For each script: its length in 16 bits, its bytes, the length of the expected output in 32 bits, the output; little-endian, one after another to the end of the file.
 use crate::{
     compare::{Met, difference, met, possible, shrink},
-    reading::{PROGRAM, listing_of},
+    reading::{Capacities, PROGRAM, listing_of},
     record::script,
+    replay::listing_of as listing_by_the_rust,
     scripts::{PROFILES, Rng, script_of},
 };
 use std::collections::BTreeMap;
@@ -75,6 +76,24 @@ fn broken() -> Vec<Vec<u8>> {
 /// The expected output of the program.
 pub fn expected(script: &[u8]) -> String {
     if script.len() > 16_384 { "script too long\n".into() } else { listing_of(script, PROGRAM) }
+}
+
+/// What the Rust gives for a script, with the program's answer to one that is too long.
+pub fn by_the_rust(script: &[u8], capacities: Capacities) -> String {
+    if script.len() > 16_384 { "script too long\n".into() } else { listing_by_the_rust(script, capacities).unwrap() }
+}
+
+/// The scripts of the file recorded.bin.
+pub fn read() -> Vec<Vec<u8>> {
+    let file = std::fs::read("recorded.bin").unwrap();
+    let (mut scripts, mut at) = (vec![], 0);
+    while at < file.len() {
+        let n = u16::from_le_bytes([file[at], file[at + 1]]) as usize;
+        scripts.push(file[at + 2..at + 2 + n].to_vec());
+        at += 2 + n;
+        at += 4 + u32::from_le_bytes(file[at..at + 4].try_into().unwrap()) as usize;
+    }
+    scripts
 }
 
 /// Tables filled to the last place. (A region table of 64 has no 65th to move into a full list, so 19 cannot come from kind 31 here.)

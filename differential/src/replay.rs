@@ -85,6 +85,11 @@ impl Replay {
 
 /// The listing that the Rust gives for a script, or what of it nothing explains.
 pub fn listing_of(script: &[u8], capacities: Capacities) -> Result<String, Unexplained> {
+    run(script, capacities).map(|x| x.1)
+}
+
+/// The Rust after a script, and the listing.
+pub fn run(script: &[u8], capacities: Capacities) -> Result<(Published, String), Unexplained> {
     let mut replay = Replay::default();
     let mut lines = String::new();
     let (mut rest, mut k) = (script, 0);
@@ -103,5 +108,6 @@ pub fn listing_of(script: &[u8], capacities: Capacities) -> Result<String, Unexp
         rest = &rest[n..];
         k += 1;
     }
-    Ok(lines + &replay.rust.rows())
+    let listing = lines + &replay.rust.rows();
+    Ok((replay.rust, listing))
 }

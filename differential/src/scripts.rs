@@ -367,20 +367,33 @@ impl Grower<'_> {
     }
 }
 
+/// Records in a script, at most.
+pub const LONGEST: usize = 200;
+
 /// The script of this seed, its profile's name and its capacities.
-pub fn script(seed: u64) -> (Vec<u8>, &'static str, Capacities) {
+pub fn script(seed: u64, longest: usize) -> (Vec<u8>, &'static str, Capacities) {
     let name = PROFILES[(seed % PROFILES.len() as u64) as usize];
     let mut rng = Rng(seed.wrapping_mul(0x0100_0003));
-    script_of(name, &mut rng)
+    script_up_to(name, longest, &mut rng)
 }
 
 pub fn script_of(name: &'static str, rng: &mut Rng) -> (Vec<u8>, &'static str, Capacities) {
-    let p = profile(name, rng);
+    script_up_to(name, LONGEST, rng)
+}
+
+/// A script of at most so many records. Most of the short ones are run over smaller stores: with room for all, or nearly.
+fn script_up_to(name: &'static str, longest: usize, rng: &mut Rng) -> (Vec<u8>, &'static str, Capacities) {
+    let mut p = profile(name, rng);
+    if longest < LONGEST && name != "small" && !rng.percent(8) {
+        let full = if name == "lists" { 60 } else { 0 };
+        let mut from = |least: usize, more: usize| (least + rng.below(more)) as u32;
+        p.capacities = [from(12, 30), from(8, 16), from(8 + full, 30), from(24 + full, 60), from(30 + full, 100)];
+    }
     if name == "junk" {
         return (junk(rng), name, p.capacities);
     }
     let store = start(p.capacities, words(p.capacities)).unwrap();
-    let mut records_left = 1 + rng.below(200);
+    let mut records_left = 1 + rng.below(longest);
     let mut grower = Grower { rng, p: &p, store };
     let mut script = vec![];
     while records_left > 0 {

@@ -1,18 +1,24 @@
 //! The proved store against the second reading: replies, listings, and every lent buffer after every call.
 use crate::{
-    compare::{fnv, text},
+    compare::{Expected, expected, fnv, text},
     interface,
+    published::Published,
     reading::{self, Capacities, MOST, Store},
     record::pieces,
     scripts::{self, Rng},
     words::{self, Places},
 };
-use std::collections::BTreeMap;
+use std::collections::{BTreeMap, HashSet};
 
 type Outcome = Result<(), String>;
 
 fn expect(holds: bool, what: &str) -> Outcome {
-    if holds { Ok(()) } else { Err(format!("the store: {what}")) }
+    expect_or(holds, || what.to_string())
+}
+
+/// The message is made only where it is needed: this runs after every call.
+fn expect_or(holds: bool, what: impl FnOnce() -> String) -> Outcome {
+    if holds { Ok(()) } else { Err(format!("the store: {}", what())) }
 }
 
 /// What lent words hold before a call that is to keep them.
@@ -32,8 +38,12 @@ impl Lent {
     /// Started in a buffer full of old words.
     fn start(capacities: Capacities, rng: &mut Rng) -> Result<Lent, String> {
         let sum = reading::words(capacities) as usize;
-        let mut words: Vec<u32> = (0..sum).map(|_| rng.next() as u32).collect();
-        words.extend([KEPT; SPARE]);
+        let mut words = vec![KEPT; sum + SPARE];
+        let mut old = rng.next() | 1;
+        for w in &mut words[..sum] {
+            old = old.wrapping_mul(0x9E37_79B9_7F4A_7C15);
+            *w = (old >> 32) as u32;
+        }
         expect(interface::start(&mut words, capacities) == 0, "start is refused")?;
         let lent = Lent { words, sum, scratch: capacities[0] as usize + rng.below(3) };
         lent.kept_spare()?;
@@ -72,97 +82,162 @@ impl Lent {
 }
 
 /// The first difference between the store and the second reading on this script, if any.
-pub fn difference(script: &[u8], capacities: Capacities) -> Option<String> {
+pub fn difference(script: &[u8], capacities: Capacities, second: &Expected, rust: &Published) -> Option<String> {
     let run = || -> Outcome {
         let mut rng = Rng(fnv(script));
-        let whole = by_script(script, capacities, &mut rng)?;
-        let single = by_edits(script, capacities, &mut rng)?;
+        let room = rng.below(3 * pieces(script).len() + 1);
+        let (single, cut_short) = by_edits(script, capacities, room / 3, &mut rng)?;
+        let whole = by_script(script, capacities, second, &mut rng)?;
         expect(whole.words[..whole.sum] == single.words[..single.sum], "a script and its single edits end in other words")?;
-        short_buffers(script, capacities, &mut rng)
+        readers(&whole.words, rust, &mut rng)?;
+        short_buffers(script, capacities, second, room, &cut_short, &mut rng)
     };
     run().err()
 }
 
-fn by_script(script: &[u8], capacities: Capacities, rng: &mut Rng) -> Result<Lent, String> {
-    let mut second = reading::start(capacities, u64::MAX).unwrap();
+fn by_script(script: &[u8], capacities: Capacities, second: &Expected, rng: &mut Rng) -> Result<Lent, String> {
     let mut lent = Lent::start(capacities, rng)?;
-    let room = 3 * pieces(script).len() + rng.below(7);
-    let (answers, code) = second.script(script, lent.scratch, room);
+    let room = 3 * second.answers.len() + rng.below(7);
     let scratch = lent.scratch;
-    let got = lent.script(script, scratch, room)?;
-    for (k, (a, b)) in got.0.iter().zip(&answers).enumerate() {
-        expect(a == b, &format!("edit {k} of the script gets {a:?}, the second reading {b:?}"))?;
+    let (answers, code) = lent.script(script, scratch, room)?;
+    for (k, (a, b)) in answers.iter().zip(&second.answers).enumerate() {
+        expect_or(a == b, || format!("edit {k} of the script gets {a:?}, the second reading {b:?}"))?;
     }
-    expect(got == (answers.clone(), code), &format!("the script returns {} after {} answers, the second reading {code}", got.1, got.0.len()))?;
-    expect(interface::is_sound(&lent.words), "not sound after the script")?;
-    let expected = second.listing(&answers);
-    let listing = lent.listing(&answers, expected.len())?;
-    let line = listing.lines().zip(expected.lines()).find(|(a, b)| a != b);
-    expect(listing == expected, &format!("other listing: {line:?}"))?;
+    expect_or(answers == second.answers && code == 0, || format!("the script returns {code} after {} answers", answers.len()))?;
+    let listing = lent.listing(&answers, second.listing.len())?;
+    let line = || listing.lines().zip(second.listing.lines()).find(|(a, b)| a != b);
+    expect_or(listing == second.listing, || format!("other listing: {:?}", line()))?;
     Ok(lent)
 }
 
-fn by_edits(script: &[u8], capacities: Capacities, rng: &mut Rng) -> Result<Lent, String> {
+/// The store after the script by single edits, and its words after `k` of them.
+fn by_edits(script: &[u8], capacities: Capacities, k: usize, rng: &mut Rng) -> Result<(Lent, Vec<u32>), String> {
     let second = reading::start(capacities, u64::MAX).unwrap();
     let mut lent = Lent::start(capacities, rng)?;
-    edits_from(second, &mut lent, script, rng)?;
-    Ok(lent)
+    let empty = Standing::of(capacities, &Places::default());
+    let cut_short = edits_from(second, empty, &mut lent, script, k, rng)?;
+    Ok((lent, cut_short))
 }
 
-/// Single edits on both, with every buffer looked at after each.
-fn edits_from(mut second: Store, lent: &mut Lent, script: &[u8], rng: &mut Rng) -> Outcome {
-    for (k, record) in pieces(script).into_iter().enumerate() {
-        let before = lent.words.clone();
-        let scratch = lent.scratch;
+/// Single edits on both, with every buffer looked at after each. Each edit begins with the store's own check, so one that leaves an unsound store shows
+/// in the next answer. Returns the words after `keep` edits.
+fn edits_from(mut second: Store, mut standing: Standing, lent: &mut Lent, script: &[u8], keep: usize, rng: &mut Rng) -> Result<Vec<u32>, String> {
+    let records = pieces(script);
+    let look = rng.below(4 * records.len() + 1);
+    let mut before = lent.words.clone();
+    let mut kept = lent.words.clone();
+    for (k, record) in records.into_iter().enumerate() {
+        let (scratch, born) = (lent.scratch, second.born);
         let (got, wanted) = (lent.edit(record, scratch)?, second.edit(record, scratch));
-        expect(got == wanted, &format!("single edit {k} gets {got:?}, the second reading {wanted:?}"))?;
+        expect_or(got == wanted, || format!("single edit {k} gets {got:?}, the second reading {wanted:?}"))?;
         if wanted[0] != 0 {
-            expect(lent.words == before, &format!("edit {k} is refused, {}, and has changed a word", wanted[0]))?;
+            expect_or(lent.words == before, || format!("edit {k} is refused, {}, and has changed a word", wanted[0]))?;
         } else {
-            expect(interface::is_sound(&lent.words), &format!("not sound after edit {k}"))?;
-            if rng.percent(10) {
-                reads_as(&second, lent, &before, k)?;
+            before.copy_from_slice(&lent.words);
+            standing.follow(&second, born);
+            if k == look {
+                reads_as(&second, lent, &standing, "on the way")?;
+            }
+        }
+        if k < keep {
+            kept.copy_from_slice(&lent.words);
+        }
+    }
+    expect(interface::is_sound(&lent.words), "not sound after single edits")?;
+    reads_as(&second, lent, &standing, "at the end")?;
+    Ok(kept)
+}
+
+/// The words, read apart from the library, are this store, with everything at its place.
+fn reads_as(second: &Store, lent: &Lent, standing: &Standing, when: &str) -> Outcome {
+    let Some((store, places)) = words::read(&lent.words) else { return Err(format!("the store: its words are no sound store {when}")) };
+    expect_or(store == *second, || format!("its words read otherwise {when}"))?;
+    for (kind, numbers) in standing.0.iter().enumerate() {
+        let here = |p: usize| places[kind].get(&p).copied();
+        let wrong = (0..numbers.len()).find(|&p| here(p) != numbers[p]);
+        expect_or(wrong.is_none(), || format!("a birth was not at the lowest free place: kind {kind}, place {wrong:?}, {when}"))?;
+    }
+    Ok(())
+}
+
+/// The birth number at each place, by kind: what an edit ends leaves its place, and then each birth takes the lowest free one.
+struct Standing([Vec<Option<u32>>; 5]);
+
+impl Standing {
+    fn of(capacities: Capacities, places: &Places) -> Standing {
+        Standing(std::array::from_fn(|k| (0..capacities[k] as usize).map(|p| places[k].get(&p).copied()).collect()))
+    }
+    /// After an edit of the second reading, before which so many had been born.
+    fn follow(&mut self, store: &Store, born: [u64; 5]) {
+        let live = store.live();
+        for (k, numbers) in self.0.iter_mut().enumerate() {
+            let births = (store.born[k] - born[k]) as usize;
+            if numbers.iter().flatten().count() + births > live[k] {
+                let all: HashSet<u32> = store.numbers_of(k).collect();
+                numbers.iter_mut().filter(|n| n.is_some_and(|n| !all.contains(&n))).for_each(|n| *n = None);
+            }
+            for n in born[k]..store.born[k] {
+                let free = numbers.iter_mut().find(|n| n.is_none()).expect("a free place");
+                *free = Some(n as u32);
             }
         }
     }
-    reads_as(&second, lent, &lent.words.clone(), usize::MAX)
 }
 
-/// The words, read apart from the library, are this store; what was born stands at the lowest free places.
-fn reads_as(second: &Store, lent: &Lent, before: &[u32], k: usize) -> Outcome {
-    let Some((store, places)) = words::read(&lent.words) else { return Err(format!("the store: its words are no sound store after edit {k}")) };
-    expect(store.rows() == second.rows() && store.born == second.born, &format!("its words read otherwise after edit {k}"))?;
-    let Some((_, mut was)) = words::read(before) else { return Err("the store: its words were no sound store".into()) };
-    for kind in 0..5 {
-        let old: Vec<u32> = was[kind].values().copied().collect();
-        let first_new = old.iter().max().map_or(0, |n| n + 1);
-        let ended = was[kind].values().any(|n| !places[kind].values().any(|m| m == n));
-        let mut born: Vec<(u32, usize)> = places[kind].iter().filter(|(_, n)| **n >= first_new && !old.contains(n)).map(|(p, n)| (*n, *p)).collect();
-        born.sort();
-        for (n, p) in born.into_iter().filter(|_| !ended) {
-            expect(words::lowest_free(&was[kind]) == p, &format!("edit {k} puts number {n} of kind {kind} at place {p}"))?;
-            was[kind].insert(p, n);
+/// The use readers on a store that is the Rust's: values and blocks, against the Rust's own use sets; some that have ended; and some never born.
+/// Each call begins with the store's own check, so all that live are read in one script of four, and about six of each kind in the others.
+fn readers(words: &[u32], rust: &Published, rng: &mut Rng) -> Outcome {
+    let all = rng.percent(25);
+    for block in [false, true] {
+        let (born, refusal) = if block { (rust.blocks.len() as u32, 8) } else { (rust.values.len() as u32, 10) };
+        let mut ended = 2;
+        for n in (0..born).chain([born, u32::MAX]) {
+            let live = if block { rust.block_live(n) } else { rust.value_live(n) };
+            if live && !all && rng.below(born as usize) >= 6 {
+                continue;
+            }
+            if live {
+                let uses = rust.uses_of(block, n);
+                if !uses.is_empty() && rng.percent(30) {
+                    reads(words, block, n, rng.below(uses.len()), Err(22))?;
+                }
+                reads(words, block, n, uses.len() + rng.below(3), Ok(&uses))?;
+            } else if ended > 0 || n >= born {
+                ended -= (ended > 0) as u32;
+                reads(words, block, n, rng.below(3), Err(refusal))?;
+            }
         }
     }
     Ok(())
 }
 
+/// One call of a reader with so much room: the uses or the refusal; what is not written is kept.
+fn reads(words: &[u32], block: bool, n: u32, room: usize, wanted: Result<&[u32], u32>) -> Outcome {
+    let mut buffer = vec![KEPT; room];
+    let (code, count) = interface::uses_of(words, block, n, &mut buffer);
+    let (wanted_code, uses) = wanted.map_or_else(|refusal| (refusal, &[][..]), |uses| (0, uses));
+    let good = code == wanted_code && count == uses.len() as u64;
+    let (written, rest) = buffer.split_at(uses.len());
+    let what = if block { "block" } else { "value" };
+    let told = || format!("the uses of {what} {n}, with room for {room}: {code}, {count}, {buffer:?}; wanted {wanted:?}");
+    expect_or(good && written == uses && rest.iter().all(|&w| w == KEPT), told)
+}
+
 /// 22 for answers and for scratch.
-fn short_buffers(script: &[u8], capacities: Capacities, rng: &mut Rng) -> Outcome {
-    let room = rng.below(3 * pieces(script).len() + 1);
-    let mut second = reading::start(capacities, u64::MAX).unwrap();
+fn short_buffers(script: &[u8], capacities: Capacities, second: &Expected, room: usize, cut_short: &[u32], rng: &mut Rng) -> Outcome {
     let mut lent = Lent::start(capacities, rng)?;
     let scratch = lent.scratch;
-    let wanted = second.script(script, scratch, room);
-    expect(lent.script(script, scratch, room)? == wanted, &format!("other answers with room for {room} words"))?;
-    expect(interface::is_sound(&lent.words), "not sound after a script without room")?;
-    let before = lent.words.clone();
+    let fit = (room / 3).min(second.answers.len());
+    let wanted = (second.answers[..fit].to_vec(), if fit < second.answers.len() { 22 } else { 0 });
+    expect_or(lent.script(script, scratch, room)? == wanted, || format!("other answers with room for {room} words"))?;
+    expect(lent.words[..lent.sum] == cut_short[..lent.sum], "a script cut short by 22 and its single edits end in other words")?;
     let short = rng.below(capacities[0] as usize);
     expect(lent.script(script, short, 30)? == (vec![], 22), "a short scratch is not answered by 22")?;
     if let Some(record) = pieces(script).first() {
-        expect(lent.edit(record, short)? == second.edit(record, short), "a single edit with a short scratch gets another answer")?;
+        let wanted = reading::start(capacities, u64::MAX).unwrap().edit(record, short);
+        expect(lent.edit(record, short)? == wanted, "a single edit with a short scratch gets another answer")?;
     }
-    expect(lent.words == before, "a call refused by 22 has changed a word")
+    expect(lent.words[..lent.sum] == cut_short[..lent.sum], "a call refused by 22 has changed a word")
 }
 
 /// A store that follows record by record, for the small scripts.
@@ -178,7 +253,7 @@ impl Follower {
         let before = self.0.words.clone();
         let scratch = self.0.scratch;
         let got = self.0.edit(record, scratch)?;
-        expect(got == answer, &format!("{got:?}, the second reading {answer:?}"))?;
+        expect_or(got == answer, || format!("{got:?}, the second reading {answer:?}"))?;
         expect(answer[0] == 0 || self.0.words == before, "a refused edit has changed a word")?;
         expect(self.0.listing(&[], rows.len())? == rows, "other rows")
     }
@@ -201,8 +276,11 @@ fn starts(rng: &mut Rng) -> Outcome {
     let length = rng.of(&[sum, sum + 3, sum - 1, sum.saturating_sub(40), any, 0]);
     let mut buffer = vec![KEPT; length as usize];
     let wanted = reading::start(capacities, length).err().unwrap_or(0);
+    let allowed = reading::start(capacities, u64::MAX).is_ok();
+    let needed = if allowed { reading::words(capacities) as usize } else { 0 };
+    expect_or(interface::words(capacities) == needed, || format!("{capacities:?} need {} words, the second reading {needed}", interface::words(capacities)))?;
     let got = interface::start(&mut buffer, capacities);
-    expect(got == wanted, &format!("start {capacities:?} in {length} words gives {got}, the second reading {wanted}"))?;
+    expect_or(got == wanted, || format!("start {capacities:?} in {length} words gives {got}, the second reading {wanted}"))?;
     if got == 5 {
         return expect(buffer.iter().all(|&w| w == KEPT), "a refused start has written a word");
     }
@@ -211,7 +289,7 @@ fn starts(rng: &mut Rng) -> Outcome {
 }
 
 /// The store of a random script, its things at random places.
-fn scattered(rng: &mut Rng) -> (Store, Vec<u32>) {
+fn scattered(rng: &mut Rng) -> (Store, Places, Vec<u32>) {
     let (script, _, capacities) = scripts::script_of(rng.of(&["mixed", "deep", "moves", "branches", "small"]), rng);
     let mut store = reading::start(capacities, u64::MAX).unwrap();
     store.script(&script, usize::MAX, usize::MAX);
@@ -234,7 +312,7 @@ fn scattered(rng: &mut Rng) -> (Store, Vec<u32>) {
         }
     }
     let words = words::write(&store, &places);
-    (store, words)
+    (store, places, words)
 }
 
 fn damage_words(words: &mut Vec<u32>, rng: &mut Rng) {
@@ -272,12 +350,12 @@ fn damage_words(words: &mut Vec<u32>, rng: &mut Rng) {
 
 /// One damaged store: the check says what the reading of the words says, and an unsound one is refused by 6, untouched.
 fn damaged(rng: &mut Rng, sound_met: &mut u64) -> Outcome {
-    let (_, mut words) = scattered(rng);
+    let (_, _, mut words) = scattered(rng);
     expect(interface::is_sound(&words), "a sound store at scattered places is called unsound")?;
     damage_words(&mut words, rng);
     let sound = words::read(&words).is_some();
     *sound_met += sound as u64;
-    expect(interface::is_sound(&words) == sound, &format!("the check does not say {sound}"))?;
+    expect_or(interface::is_sound(&words) == sound, || format!("the check does not say {sound}"))?;
     if sound {
         return Ok(());
     }
@@ -294,26 +372,28 @@ fn damaged(rng: &mut Rng, sound_met: &mut u64) -> Outcome {
     expect(lent.edit(&record[..3], 4096)? == [1, 0, 0], "a broken record on an unsound store does not get 1")?;
     expect(lent.script(&record, 0, 12)? == (vec![], 6), "a script on an unsound store does not get 6")?;
     expect(lent.script(&[], 4096, 12)? == (vec![], 6), "an empty script on an unsound store does not get 6")?;
-    expect(lent.words == before, "a call refused by 6 has changed a word")
+    expect(lent.words == before, "a call refused by 6 has changed a word")?;
+    reads(&lent.words, rng.percent(50), rng.below(3) as u32, rng.below(3), Err(6))
 }
 
 /// Single edits from a scattered store on, its numbers often nearly spent (21).
 fn from_scattered(rng: &mut Rng, refused_21: &mut u64) -> Outcome {
-    let (store, words) = scattered(rng);
+    let (store, places, words) = scattered(rng);
+    let standing = Standing::of(store.capacities, &places);
     let sum = words.len();
     let mut lent = Lent { words, sum, scratch: store.capacities[0] as usize };
     lent.words.extend([KEPT; SPARE]);
     let (script, _, _) = scripts::script_of("mixed", rng);
     let mut again = store.clone();
     *refused_21 += pieces(&script).iter().filter(|r| again.edit(r, usize::MAX)[0] == 21).count() as u64;
-    let edits = edits_from(store, &mut lent, &script, rng);
+    let edits = edits_from(store, standing, &mut lent, &script, 0, rng).map(|_| ());
     edits.map_err(|why| format!("{why}; after a scattered store: {}", text(&script)))
 }
 
 /// A script over a store of the largest capacities, often with more births than fit a small one.
 fn largest(rng: &mut Rng) -> Outcome {
     let (script, _, _) = scripts::script_of(rng.of(&["mixed", "lists", "erase"]), rng);
-    by_script(&script, MOST, rng).map(|_| ()).map_err(|why| format!("{why}; at the largest capacities: {}", text(&script)))
+    by_script(&script, MOST, &expected(&script, MOST), rng).map(|_| ()).map_err(|why| format!("{why}; at the largest capacities: {}", text(&script)))
 }
 
 /// n of each: starts, damaged stores, edits on scattered stores; and some at the largest capacities.

@@ -107,11 +107,6 @@ pub fn write(store: &Store, places: &Places) -> Vec<u32> {
     all
 }
 
-/// Births take the lowest free places: what a new thing's place must be, given who was there.
-pub fn lowest_free(places: &BTreeMap<usize, u32>) -> usize {
-    (0..).find(|p| !places.contains_key(p)).unwrap()
-}
-
 /// The store that the words are, with its places; none if they are no sound store. Words past the sum are not looked at.
 pub fn read(all: &[u32]) -> Option<(Store, Places)> {
     let capacities: Capacities = all.get(..5)?.try_into().unwrap();

@@ -1,5 +1,40 @@
 // The store for C and Rust: each exported function is one call of a proved one. A slice is a pointer and a count of elements.
 use context::Layout;
+use readers::Uses;
+ghost use mathlib.Core.Path.{_≡_};
+ghost use Rattle.seqs.specs.Seqs.{Says};
+ghost use Rattle.context.specs.Start.{StartIs, WordsNeeded};
+ghost use Rattle.script.specs.Calls.{SoundWords, Scripted};
+ghost use Rattle.readers.specs.UsesOf.{definitionBy, refusalIn, countIn};
+ghost use Rattle.ffi.specs.Called.{layoutBy, ranBy, EditCalled, Listed, UsesCalled};
+
+// The capacities as the store takes them.
+fn layout(ops: u32, blocks: u32, regions: u32, values: u32, uses: u32) -> Layout
+    ensures { λ l. ⌜ l ≡ layoutBy ops blocks regions values uses ⌝ }
+{
+    Layout {
+        ops: ops as usize,
+        blocks: blocks as usize,
+        regions: regions as usize,
+        values: values as usize,
+        uses: uses as usize,
+    }
+}
+
+// How many words a store with these capacities needs; 0 where a capacity is 0 or over its limit.
+#[no_mangle]
+pub extern "C" fn recipe_words(
+    ops: u32,
+    blocks: u32,
+    regions: u32,
+    values: u32,
+    uses: u32,
+) -> usize
+    ensures { λ r. ⌜ WordsNeeded (layoutBy ops blocks regions values uses) r ⌝ }
+{
+    let l = layout(ops, blocks, regions, values, uses);
+    context::words_needed(l)
+}
 
 // Starts an empty store: 0 or 5.
 #[no_mangle]
@@ -10,14 +45,10 @@ pub extern "C" fn recipe_start(
     regions: u32,
     values: u32,
     uses: u32,
-) -> u32 {
-    let l = Layout {
-        ops: ops as usize,
-        blocks: blocks as usize,
-        regions: regions as usize,
-        values: values as usize,
-        uses: uses as usize,
-    };
+) -> u32
+    ensures { λ r. ⌜ StartIs (layoutBy ops blocks regions values uses) (now (store .entry)) (now (store .exit)) r ⌝ }
+{
+    let l = layout(ops, blocks, regions, values, uses);
     context::start(store, l)
 }
 
@@ -26,13 +57,15 @@ pub extern "C" fn recipe_start(
 pub extern "C" fn recipe_edit(
     store: &mut [u32],
     scratch: &mut [u32],
-    record: &[u8],
+    bytes: &[u8],
     answer: &mut [u32],
-) -> u32 {
+) -> u32
+    ensures { λ r. ⌜ EditCalled (now (bytes .entry)) (now (store .entry)) (now (store .exit)) (now (scratch .entry)) (now (scratch .exit)) (now (answer .entry)) (now (answer .exit)) r ⌝ }
+{
     if answer.len() < 3 {
         return 22;
     }
-    let a = script::edit(store, scratch, record);
+    let a = script::edit(store, scratch, bytes);
     edit::put_answer(answer, 0, a);
     answer[0]
 }
@@ -45,7 +78,9 @@ pub extern "C" fn recipe_script(
     script: &[u8],
     answers: &mut [u32],
     count: &mut u64,
-) -> u32 {
+) -> u32
+    ensures { λ r. ⌜ Scripted (now (script .entry)) (now (store .entry)) (now (store .exit)) (now (scratch .entry)) (now (scratch .exit)) (now (answers .entry)) (now (answers .exit)) (ranBy r (now (count .exit))) ⌝ }
+{
     let r = script::script(store, scratch, script, answers);
     *count = r.count as u64;
     r.code
@@ -53,13 +88,17 @@ pub extern "C" fn recipe_script(
 
 // Whether a buffer is a sound store.
 #[no_mangle]
-pub extern "C" fn recipe_check(store: &[u32]) -> bool {
+pub extern "C" fn recipe_check(store: &[u32]) -> bool
+    ensures { λ r. ⌜ Says r (SoundWords (now (store .entry))) ⌝ }
+{
     sound::check(store)
 }
 
 // The listing of the answers and of a sound store, as far as `out` has room: its length, or 0 where the store is not sound.
 #[no_mangle]
-pub extern "C" fn recipe_listing(store: &[u32], answers: &[u32], out: &mut [u8]) -> usize {
+pub extern "C" fn recipe_listing(store: &[u32], answers: &[u32], out: &mut [u8]) -> usize
+    ensures { λ r. ⌜ Listed (now (store .entry)) (now (answers .entry)) (now (out .entry)) (now (out .exit)) r ⌝ }
+{
     let good = sound::check(store);
     if !good {
         return 0;
@@ -71,4 +110,48 @@ pub extern "C" fn recipe_listing(store: &[u32], answers: &[u32], out: &mut [u8])
     }
     let a = listing::write_answers(answers, n, out, 0);
     listing::write_listing(store, l, out, a)
+}
+
+// The uses of a value or a block into the caller's buffer: 0 and their count, or the refusal.
+fn tell_uses(r: Uses, count: &mut u64) -> u32
+    ensures { λ n. ⌜ (n ≡ refusalIn r) × (now (count .exit) ≡ countIn r) ⌝ }
+{
+    match r {
+        Uses::Filled(n) => {
+            *count = n as u64;
+            0
+        }
+        Uses::Refused(n) => {
+            *count = 0;
+            n
+        }
+    }
+}
+
+// The numbers of a value's uses, rising, in front of `uses`; `count` gets how many. 6, 10 or 22 where refused, and then `uses` is kept.
+#[no_mangle]
+pub extern "C" fn recipe_value_uses(
+    store: &[u32],
+    value: u32,
+    uses: &mut [u32],
+    count: &mut u64,
+) -> u32
+    ensures { λ r. ⌜ UsesCalled (now (store .entry)) (definitionBy 0 value) (now (uses .entry)) (now (uses .exit)) (now (count .exit)) r ⌝ }
+{
+    let r = readers::uses_of(store, 0, value, uses);
+    tell_uses(r, count)
+}
+
+// The numbers of a block's uses, likewise. 6, 8 or 22 where refused.
+#[no_mangle]
+pub extern "C" fn recipe_block_uses(
+    store: &[u32],
+    block: u32,
+    uses: &mut [u32],
+    count: &mut u64,
+) -> u32
+    ensures { λ r. ⌜ UsesCalled (now (store .entry)) (definitionBy 1 block) (now (uses .entry)) (now (uses .exit)) (now (count .exit)) r ⌝ }
+{
+    let r = readers::uses_of(store, 1, block, uses);
+    tell_uses(r, count)
 }

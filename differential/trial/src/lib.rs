@@ -11,7 +11,7 @@ mod words;
 use reading::Store;
 use std::{collections::BTreeMap, slice, sync::OnceLock};
 
-const FAULTS: [&str; 16] = [
+const FAULTS: [&str; 19] = [
     "none",
     "an edit that is refused leaves its scratch",
     "an edit that gets 12 changes a word",
@@ -28,6 +28,9 @@ const FAULTS: [&str; 16] = [
     "an accepted edit writes past the sum",
     "an edit on an unsound store changes a word",
     "the check says no where a terminator with flags 3 is linked",
+    "a reader with too little room writes what fits",
+    "the uses of a block lack the last",
+    "the words of a store are one too few where an occupancy map ends in a half word",
 ];
 
 fn fault(name: &str) -> bool {
@@ -60,7 +63,7 @@ fn places_after(before: &words::Places, was: &Store, store: &Store) -> words::Pl
         live[k].sort();
         let mut places: BTreeMap<usize, u32> = before[k].iter().filter(|x| live[k].contains(x.1)).map(|x| (*x.0, *x.1)).collect();
         for &n in live[k].iter().filter(|&&n| n as u64 >= was.born[k]) {
-            let free = words::lowest_free(&places);
+            let free = (0..).find(|p| !places.contains_key(p)).unwrap();
             let next_too = !places.contains_key(&(free + 1)) && free + 1 < store.capacities[k] as usize;
             let shift = next_too && fault("births do not take the lowest free place");
             places.insert(free + shift as usize, n);
@@ -148,12 +151,13 @@ pub unsafe extern "C" fn recipe_start(p: *mut u32, n: usize, ops: u32, blocks: u
 }
 
 #[unsafe(no_mangle)]
-pub unsafe extern "C" fn recipe_edit(p: *mut u32, n: usize, s: *mut u32, m: usize, record: *const u8, length: usize, answer: *mut u32, three: usize) {
+pub unsafe extern "C" fn recipe_edit(p: *mut u32, n: usize, s: *mut u32, m: usize, record: *const u8, length: usize, answer: *mut u32, three: usize) -> u32 {
     let got = unsafe { edit(lent_mut(p, n), lent(record, length), m) };
     if got[0] == 0 || !fault("an edit that is refused leaves its scratch") {
         unsafe { lent_mut(s, m) }.fill(0);
     }
     unsafe { lent_mut(answer, three) }.copy_from_slice(&got);
+    got[0]
 }
 
 #[unsafe(no_mangle)]
@@ -166,17 +170,55 @@ pub unsafe extern "C" fn recipe_script(
     length: usize,
     answers: *mut u32,
     room: usize,
-    out: *mut u32,
-    two: usize,
-) {
+    count: *mut u64,
+) -> u32 {
     unsafe { lent_mut(s, m) }.fill(0);
-    let got = unsafe { script(lent_mut(p, n), m, lent(bytes, length), lent_mut(answers, room)) };
-    unsafe { lent_mut(out, two) }.copy_from_slice(&got);
+    let [code, answered] = unsafe { script(lent_mut(p, n), m, lent(bytes, length), lent_mut(answers, room)) };
+    unsafe { *count = answered as u64 };
+    code
 }
 
 #[unsafe(no_mangle)]
-pub unsafe extern "C" fn recipe_check(p: *const u32, n: usize) -> u32 {
-    check(unsafe { lent(p, n) }) as u32
+pub unsafe extern "C" fn recipe_check(p: *const u32, n: usize) -> bool {
+    check(unsafe { lent(p, n) })
+}
+
+#[unsafe(no_mangle)]
+pub extern "C" fn recipe_words(ops: u32, blocks: u32, regions: u32, values: u32, uses: u32) -> usize {
+    let capacities = [ops, blocks, regions, values, uses];
+    let short = uses % 64 > 32 && fault("the words of a store are one too few where an occupancy map ends in a half word");
+    reading::start(capacities, u64::MAX).map_or(0, |_| reading::words(capacities) as usize - short as usize)
+}
+
+fn uses_of(store: &[u32], block: bool, number: u32, out: &mut [u32]) -> Result<usize, u32> {
+    let (store, _) = words::read(store).ok_or(6u32)?;
+    let live = if block { store.blocks.contains_key(&number) } else { store.values.contains_key(&number) };
+    let mut uses = match (live, block) {
+        (false, _) => return Err(if block { 8 } else { 10 }),
+        (true, false) => store.uses_of_value(number),
+        (true, true) => store.uses_of_block(number),
+    };
+    if block && fault("the uses of a block lack the last") {
+        uses.pop();
+    }
+    if uses.len() <= out.len() || fault("a reader with too little room writes what fits") {
+        out.iter_mut().zip(&uses).for_each(|(w, u)| *w = u.0);
+    }
+    if uses.len() <= out.len() { Ok(uses.len()) } else { Err(22) }
+}
+
+#[unsafe(no_mangle)]
+pub unsafe extern "C" fn recipe_value_uses(p: *const u32, n: usize, number: u32, out: *mut u32, room: usize, count: *mut u64) -> u32 {
+    let told = unsafe { uses_of(lent(p, n), false, number, lent_mut(out, room)) };
+    unsafe { *count = told.unwrap_or(0) as u64 };
+    told.err().unwrap_or(0)
+}
+
+#[unsafe(no_mangle)]
+pub unsafe extern "C" fn recipe_block_uses(p: *const u32, n: usize, number: u32, out: *mut u32, room: usize, count: *mut u64) -> u32 {
+    let told = unsafe { uses_of(lent(p, n), true, number, lent_mut(out, room)) };
+    unsafe { *count = told.unwrap_or(0) as u64 };
+    told.err().unwrap_or(0)
 }
 
 #[unsafe(no_mangle)]

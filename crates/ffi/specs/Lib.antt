@@ -1,0 +1,2 @@
+-- The exported functions. Assumes nothing.
+pub mod Called

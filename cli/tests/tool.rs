@@ -37,6 +37,20 @@ fn runs_the_examples() {
     is_expected("nest.listing", &printed(&["run", "examples/nest.txt"]));
 }
 
+/// The texts of examples/corners are what the programs `crates/NAME_demo` run.
+#[test]
+fn runs_the_corners() {
+    for name in ["uses", "values", "links", "creation", "walk"] {
+        let text = format!("examples/corners/{name}.txt");
+        let stored = |file: &str| fs::read(root().join(format!("crates/{name}_demo/{file}")));
+        assert_eq!(tool(&["assemble", &text]).stdout, stored("stdin").unwrap(), "{text}");
+        // What a program must print is stored once it has been proved and run.
+        if let Ok(expected) = stored("stdout") {
+            assert_eq!(printed(&["run", &text]).as_bytes(), expected, "{text}");
+        }
+    }
+}
+
 #[test]
 fn draws_the_examples() {
     for example in ["first", "nest"] {

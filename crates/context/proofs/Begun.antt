@@ -1,23 +1,22 @@
 -- The reply to a start, the rules' state that it begins in, and how many words it takes. Assumes nothing.
 use mathlib.Core.Path.{_≡_, refl, sym, ap, _∙_}
-use mathlib.Core.Logic.{_≢_, _⊎_, inl, inr, ⊎-elim, ite, if-pos, if-neg, by-cases}
-use mathlib.Core.List.{List, [], _∷_}
-use Prim.Native.Nat.{ℕ, zero, suc, _+_, _*_, _/_, _≤_, _<_}
+use mathlib.Core.Logic.{_⊎_, inl, inr, ⊎-elim, ite, if-pos, if-neg, by-cases}
+use mathlib.Core.List.{List}
+use Prim.Native.Nat.{ℕ, _+_, _*_, _≤_, _<_}
 use native.Mathlib.Decide.{decLe, decLt}
 use native.Mathlib.Omega.{arith}
 use lib.ListN.{length}
-use Rattle.rules.specs.History.{Five, begin, zeros}
+use Rattle.rules.specs.History.{begin, zeros}
 use Rattle.rules.specs.Orders.{no-orders}
 use Rattle.rules.specs.State.{start}
-use Rattle.places.specs.Store.{State, empty}
+use Rattle.places.specs.Store.{empty}
 use Rattle.places.specs.View.{view, recOf}
 use Rattle.places.specs.Hist.{hist, ordersOf, ruleState, meaning}
 use Rattle.context.specs.declared.Layout.{Layout}
 use Rattle.context.specs.Layout.{capOf, total, arena, Caps}
-use Rattle.context.specs.Memory.{stateOf}
 use Rattle.context.specs.Steps.{Started}
 use Rattle.context.specs.Performed.{abs}
-use Rattle.context.specs.Start.{fiveOf, within, startCode, StartIs, WordsNeeded}
+use Rattle.context.specs.Start.{fiveOf, within, startCode, StartIs}
 
 -- ---- the reply
 

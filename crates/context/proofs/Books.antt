@@ -1,8 +1,8 @@
 -- A birth and an end in one table are steps of the store; the laws of the thin functions on tables. Assumes nothing.
 use mathlib.Core.Path.{_≡_, refl, sym, ap, _∙_}
-use mathlib.Core.Logic.{_≢_, by-cases, if-pos, if-neg}
-use mathlib.Core.List.{List, [], _∷_, _++_}
-use Prim.Native.Nat.{ℕ, _+_, _-_, _*_, _≤_, _<_}
+use mathlib.Core.Logic.{by-cases, if-pos, if-neg}
+use mathlib.Core.List.{List}
+use Prim.Native.Nat.{ℕ, _+_, _-_, _≤_, _<_}
 use native.Mathlib.Decide.{ℕ-discrete, decLt}
 use native.Mathlib.Numerals.{add-one}
 use native.Mathlib.Omega.{arith}
@@ -11,8 +11,7 @@ use Rattle.seqs.specs.Split.{split, splice}
 use Rattle.bits.specs.declared.Found.{Found}
 use Rattle.bits.specs.declared.Found.the-variants.{At, Nothing}
 use Rattle.bits.proofs.Lowest.{Low, low-at}
-use Rattle.table.specs.Table.{next, stamp, live, entry, findIn}
-use Rattle.table.specs.Table.{count as lives}
+use Rattle.table.specs.Table.{next, stamp, live, entry, findIn, count as lives}
 use Rattle.arena.specs.Packed.{Packed, Alive, Bore, Gone, front}
 use Rattle.seqs.specs.Seqs.{upd, count}
 use Rattle.places.specs.Store.{Kind, op, blk, reg, val, usg, Fam, Kind-dec, Thing, Thing-dec, alive, Live, birth, end}
@@ -25,8 +24,7 @@ use Rattle.context.specs.declared.Span.{Span}
 use Rattle.context.specs.Layout.{capOf, ncOf, nnOf, sizes, arena, kindPart, famPart, RoomOf}
 use Rattle.context.specs.Memory.{part, bookIn, rowsIn, homesIn, partsOf, rowsFor, stateOf, Well, Borne, Finished, Finds, RoomFor, RoomIs}
 use Rattle.context.specs.Reading.{NumberIs, LiveIs, NextNumberIs, NthLiveIs}
-use Rattle.context.proofs.Pieces.{Swapped, lent, swap, there, elsewhere, well-table, fam-part<, kind-part<, kind-part-inj}
-use Rattle.context.proofs.Pieces.{tags-kept}
+use Rattle.context.proofs.Pieces.{Swapped, lent, swap, there, elsewhere, well-table, fam-part<, kind-part<, kind-part-inj, tags-kept}
 use Rattle.table.proofs.Live.{length-live, without-is, live-number, live-stamp, stamp-live, free-dead, found-at, found-none, nth-live}
 
 module _ {l : Layout} {m m′ s′ : List ℕ} (k : Kind) (S : Swapped l (kindPart k) s′ m m′) where

@@ -1,10 +1,10 @@
 -- The check of the parts. Assumes nothing.
 use mathlib.Core.Path.{_≡_, sym, ap, _∙_}
-use mathlib.Core.Logic.{_≢_}
 use mathlib.Core.Bool.{Bool}
 use mathlib.Core.List.{List, [], _∷_}
 use Prim.Native.Nat.{ℕ, _+_, _-_, _*_, _≤_, _<_}
 use native.Mathlib.Omega.{arith}
+use lib.Seq.{getD-take}
 use lib.ListN.{length, getD, take, drop}
 use Rattle.seqs.specs.Split.{split}
 use Rattle.linked_list.specs.Links.{Linked}
@@ -14,7 +14,7 @@ use Rattle.places.specs.Store.{Kind, op, blk, reg, val, usg, Fam, slots, useSet
 use Rattle.context.specs.declared.Layout.{Layout}
 use Rattle.context.specs.declared.Span.{Span}
 use Rattle.context.specs.Layout.{total, arena, kindPart, famPart, kindOf, famOf, SpanOf, RoomOf, Caps}
-use Rattle.context.specs.Memory.{part, Well}
+use Rattle.context.specs.Memory.{part, layoutOf, Well}
 use Rattle.context.specs.Checked.{Headed, TableOk, FamilyOk, TablesOk, FamiliesOk, SpareOk}
 use Rattle.context.proofs.Sparing.{spare-of}
 use Rattle.context.proofs.Pieces.{lent, fam-part<, kind-part<}
@@ -29,6 +29,14 @@ head-read l (x ∷ y ∷ []) h a b c d e = absurd (omega arith)
 head-read l (x ∷ y ∷ z ∷ []) h a b c d e = absurd (omega arith)
 head-read l (x ∷ y ∷ z ∷ v ∷ []) h a b c d e = absurd (omega arith)
 head-read l (x ∷ y ∷ z ∷ v ∷ w ∷ m) h a b c d e = record { head = sym (λ i. a i ∷ b i ∷ c i ∷ d i ∷ e i ∷ []) }
+
+-- the capacities that were read are the header's
+pub headed : {l : Layout} {m : List ℕ} → Headed l m → l ≡ layoutOf m
+unfolding split
+headed {l} {m} H = λ i. record { ops = at 0 (omega arith) i; blocks = at 1 (omega arith) i; regions = at 2 (omega arith) i; values = at 3 (omega arith) i; uses = at 4 (omega arith) i }
+  where
+    at : (j : ℕ) → j < 5 → getD (l .ops ∷ l .blocks ∷ l .regions ∷ l .values ∷ l .uses ∷ []) j 0 ≡ getD m j 0
+    at j h = ap (λ (t : List ℕ). getD t j 0) (sym (H .head)) ∙ getD-take 5 m j 0 h
 
 pub table-says : (l : Layout) (m : List ℕ) (k : Kind) (r : Span) → RoomOf l k r → (b : Bool) → Says b (Packed (r .nc) (take (r .at + r .nn - r .at) (drop (r .at) m))) → Says b (TableOk l m k)
 table-says l m k r T b h =

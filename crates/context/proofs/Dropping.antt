@@ -1,23 +1,20 @@
 -- The uses of a list end one after another: a turn of the loop. Assumes nothing.
 use mathlib.Core.Path.{_≡_, refl, sym, ap, ap₂, _∙_}
 use mathlib.Core.List.{List, [], _∷_, map}
-use Prim.Native.Nat.{ℕ, zero, suc, _+_, _-_, _*_, _≤_, _<_}
-use native.Mathlib.Numerals.{add-one}
+use Prim.Native.Nat.{ℕ, _+_, _-_, _≤_, _<_, _/_, _%_}
 use native.Mathlib.Omega.{arith}
 use lib.ListN.{length}
 use native.Mathlib.Decide.{ℕ-discrete}
 use mathlib.Core.Logic.{ite}
-use Prim.Native.Nat.{_/_, _%_}
 use Rattle.places.specs.Parts.{rowsOf}
-use Rattle.places.specs.Store.{op, operands, successors, Limited, usg, slots, Thing, Con, State, Live, Sound, UseHeld, fam}
+use Rattle.places.specs.Store.{op, operands, successors, Limited, usg, slots, Thing, Con, State, Live, UseHeld, fam}
 use Rattle.places.specs.View.{num, namedC, view}
-use Rattle.places.specs.Edits.{endUse, nDrop}
+use Rattle.places.specs.Edits.{nDrop}
 use Rattle.places.proofs.Turn.{P₁, x-is, live, held, list₁, left}
 use Rattle.places.specs.Walk.{cutAll}
 use Rattle.places.proofs.Cut.{cut-append, cut-nothing}
 use Rattle.places.proofs.Cuts.{endUse-cut}
 use Rattle.context.specs.declared.Layout.{Layout}
-use Rattle.context.specs.Layout.{ncOf}
 use Rattle.context.specs.Memory.{con, stateOf, SoundStore, headCode, FirstIs}
 use Rattle.context.specs.Steps.{EndedUse, slotList, droppedTo, Dropping, DroppedAll}
 use Rattle.context.proofs.Families.{con-back}

@@ -1,9 +1,9 @@
 -- A change of one row of a family is a step of the store. Assumes nothing.
 use mathlib.Core.Path.{_≡_, refl, sym, ap, _∙_, subst₂}
-use mathlib.Core.Logic.{_≢_, ite, if-pos, if-neg, by-cases}
-use mathlib.Core.List.{List, [], _∷_, map}
+use mathlib.Core.Logic.{ite, if-pos, if-neg, by-cases}
+use mathlib.Core.List.{List, [], map}
 use mathlib.Core.Option.{Option, none, some}
-use Prim.Native.Nat.{ℕ, zero, suc, _+_, _-_, _*_, _/_, _%_, _≤_, _<_}
+use Prim.Native.Nat.{ℕ, zero, suc, _+_, _-_, _/_, _%_, _<_}
 use native.Mathlib.Decide.{ℕ-discrete, decLt}
 use native.Mathlib.Numerals.{add-one}
 use native.Mathlib.Omega.{arith}

@@ -1,14 +1,13 @@
 -- A thing leaves a list and the last one takes its gap: the list, and the store. Assumes nothing.
 use mathlib.Core.Path.{_≡_, refl, sym, ap, _∙_}
-use mathlib.Core.Logic.{_≢_, _⊎_, ⊎-elim, ite, if-pos, if-neg, by-cases}
+use mathlib.Core.Logic.{_≢_, ⊎-elim, ite, if-pos, if-neg, by-cases}
 use mathlib.Core.HLevel.{Discrete}
 use mathlib.Core.List.{List, [], _∷_, _++_, map, append-assoc, append-nil}
 use mathlib.Core.Option.{Option, none, some}
-use Prim.Native.Nat.{ℕ, zero, suc, _+_, _≤_, _<_}
 use native.Mathlib.Omega.{arith}
 use lib.ListN.{length}
-use Rattle.seqs.specs.Seqs.{tick, count, without, insertAt, lastOf, frontOf, swapOut}
-use Rattle.seqs.proofs.Base.{tick-yes, tick-no}
+use Rattle.seqs.specs.Seqs.{count, without, insertAt, lastOf, frontOf, swapOut}
+use Rattle.seqs.proofs.Base.{tick-yes}
 use Rattle.places.specs.Store.{Role, Fam, fam, Thing, Con, State, relink, setOwn, setList}
 use Rattle.places.proofs.Steps.{lists, owners}
 use Rattle.places.proofs.Extra.{without-none}

@@ -1,28 +1,26 @@
 -- What is left of `Sound` where each part is well formed: what a check of the whole store has to look at. Assumes nothing.
 use mathlib.Core.Path.{_≡_, refl, sym, ap, _∙_}
-use mathlib.Core.Logic.{_≢_, ite, if-pos, if-neg, by-cases}
+use mathlib.Core.Logic.{_≢_, if-pos, if-neg, by-cases}
 use mathlib.Core.List.{List, [], _∷_, map}
 use mathlib.Core.Option.{Option, none, some}
-use Prim.Native.Nat.{ℕ, zero, suc, _+_, _-_, _*_, _≤_, _<_}
+use Prim.Native.Nat.{ℕ, zero, suc, _≤_, _<_}
 use native.Mathlib.Decide.{ℕ-discrete, decLt}
 use native.Mathlib.Omega.{arith}
 use lib.ListN.{length, getD, List·getD-eq-default}
-use Rattle.seqs.specs.Split.{split}
-use Rattle.linked_list.specs.Links.{at, home, lists, Linked, Links}
+use Rattle.linked_list.specs.Links.{at, home, lists, Linked}
 use Rattle.linked_list.proofs.Laws.{at-inj, at-lt}
 use Rattle.linked_list.proofs.View.{Seat, seat}
-use Rattle.seqs.specs.Seqs.{count, tick, In}
-use Rattle.places.specs.Store.{Kind, op, Role, Fam, fam, nodeOf, holderOf, Limited, Thing, Thing-dec, Con, Con-dec, Kind-dec, State, alive, Live, Link, owns, up, Ends, Placed, Sound, Tab}
-use Rattle.places.specs.Store.{Linked as PLinked}
-use Rattle.places.specs.Parts.{Parts, Rows, nodeIn, conOf, rowsOf, store, tableOf}
+use Rattle.seqs.specs.Seqs.{count, tick}
+use Rattle.places.specs.Store.{Kind, op, Role, Fam, fam, nodeOf, holderOf, Limited, Thing, Thing-dec, Con, Con-dec, Kind-dec, State, Live, Link, owns, up, Ends, Placed, Tab}
+use Rattle.places.specs.Parts.{nodeIn, conOf, store}
 use Rattle.seqs.proofs.Base.{tick-yes, tick-no}
 use Rattle.places.proofs.Steps.{some-inj, some-none}
 use Rattle.places.proofs.Rows.{node-in}
 use Rattle.context.specs.declared.Layout.{Layout}
-use Rattle.context.specs.Layout.{capOf, ncOf, nnOf, sizes, kindPart, famPart}
-use Rattle.context.specs.Memory.{part, decode, rowsIn, homesIn, partsOf, rowsFor, con, stateOf, Well, SoundStore}
+use Rattle.context.specs.Layout.{ncOf, nnOf, famPart}
+use Rattle.context.specs.Memory.{part, decode, rowsIn, partsOf, rowsFor, con, stateOf, Well, SoundStore}
 use Rattle.context.proofs.Pieces.{getD-out}
-use Rattle.context.proofs.Families.{Back, con-back, con-holder}
+use Rattle.context.proofs.Families.{con-back, con-holder}
 use Rattle.context.proofs.Tables.{tab-of}
 
 -- what a check looks at, beyond the parts

@@ -23,3 +23,5 @@ pub mod Ending
 pub mod Linking
 pub mod Gaps
 pub mod Moving
+pub mod Performing
+pub mod Cursor

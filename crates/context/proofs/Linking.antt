@@ -1,13 +1,12 @@
 -- An operation is put into a block and taken out, a block into a region: one law for both. Assumes nothing.
 use mathlib.Core.Path.{_≡_, refl, sym, ap, _∙_}
-use mathlib.Core.List.{List, [], _∷_, _++_}
-use mathlib.Core.Option.{Option, none, some}
-use Prim.Native.Nat.{ℕ, zero, suc, _+_, _*_, _≤_, _<_}
+use mathlib.Core.List.{List, _∷_, _++_}
+use mathlib.Core.Option.{some}
+use Prim.Native.Nat.{ℕ, suc, _+_}
 use lib.ListN.{length, getD}
 use Rattle.linked_list.specs.Links.{home}
-use Rattle.places.specs.Store.{Kind, op, blk, reg, Fam, opsIn, blocksIn, ops, blocks, fam, Thing, Con, State, Sound, enter, leave}
+use Rattle.places.specs.Store.{op, blk, reg, Fam, ops, blocks, Thing, Con, Sound, enter, leave}
 use Rattle.places.specs.Parts.{nodeIn, rowsOf}
-use Rattle.places.proofs.Steps.{CanEnter, some-inj}
 use Rattle.places.proofs.Whole.{link-sound, unlink-sound}
 use Rattle.context.specs.declared.Layout.{Layout}
 use Rattle.context.specs.Layout.{ncOf, nnOf, famPart}

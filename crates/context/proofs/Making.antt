@@ -1,19 +1,17 @@
 -- A block and a value are born: the laws of the primitives. Assumes nothing.
-use mathlib.Core.Path.{_≡_, refl, sym, ap, _∙_}
-use mathlib.Core.Logic.{_≢_}
-use mathlib.Core.List.{List, [], _∷_}
+use mathlib.Core.Path.{_≡_, ap, _∙_}
+use mathlib.Core.List.{List}
 use mathlib.Core.Option.{Option, none, some}
-use Prim.Native.Nat.{ℕ, zero, suc, _+_, _*_, _≤_, _<_}
+use Prim.Native.Nat.{ℕ}
 use native.Mathlib.Omega.{arith}
-use lib.ListN.{length}
 use Rattle.seqs.proofs.Base.{upd-upd}
-use Rattle.places.specs.Store.{Kind, op, blk, reg, val, usg, Role, Fam, vals, fam, nodeOf, Thing, Thing-dec, Con, State, alive, Live, Placed, Sound, birth, enter}
-use Rattle.places.specs.Parts.{store, nodeIn}
+use Rattle.places.specs.Store.{op, blk, val, Fam, vals, fam, nodeOf, Thing-dec, Con, State, Placed, birth, enter}
+use Rattle.places.specs.Parts.{store}
 use Rattle.places.specs.View.{view}
 use Rattle.places.proofs.Steps.{Fresh, dead-bare}
 use Rattle.places.proofs.Whole.{bear-sound, bear-in-sound, bear-in-view}
 use Rattle.context.specs.declared.Layout.{Layout}
-use Rattle.context.specs.Memory.{partsOf, con, stateOf, setTag, Well, SoundStore, Entered, Borne, Tagged}
+use Rattle.context.specs.Memory.{partsOf, con, stateOf, setTag, SoundStore, Entered, Borne, Tagged}
 use Rattle.context.specs.Steps.{BorneBlock, CanBearValue, BorneValue}
 use Rattle.context.proofs.Families.{con-back, con-holder}
 use Rattle.context.proofs.Neighbours.{kind-of}

@@ -1,15 +1,14 @@
 -- A node comes to stand beside a mark: the laws of the thin functions. Assumes nothing.
 use mathlib.Core.Path.{_≡_, ap, _∙_, subst}
-use mathlib.Core.List.{List, [], _∷_, _++_}
+use mathlib.Core.List.{List, []}
 use mathlib.Core.Option.{none, some}
-use Prim.Native.Nat.{ℕ, suc, _+_, _-_, _*_, _≤_, _<_}
+use Prim.Native.Nat.{ℕ, suc, _+_, _-_, _*_, _<_}
 use native.Mathlib.Decide.{ℕ-discrete}
 use native.Mathlib.Omega.{arith}
 use lib.ListN.{length, getD, take, drop}
 use Rattle.seqs.specs.Split.{splice}
 use Rattle.seqs.specs.Seqs.{insertAt, indexOf}
-use Rattle.linked_list.specs.Links.{home, lists, row, container, Linked, Rowed, Sizes, insertAfter, insertBefore}
-use Rattle.linked_list.specs.Links.{listOf as rowOf}
+use Rattle.linked_list.specs.Links.{home, lists, row, container, Linked, Rowed, Sizes, insertAfter, insertBefore, listOf as rowOf}
 use Rattle.linked_list.proofs.View.{Seat, index-at}
 use Rattle.places.specs.Store.{Fam, Con, enter}
 use Rattle.places.specs.Parts.{nodeIn}

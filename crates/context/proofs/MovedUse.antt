@@ -1,21 +1,18 @@
 -- A use moves: the law of the primitive. Assumes nothing.
-use mathlib.Core.Path.{_≡_, refl, sym, ap, _∙_}
-use mathlib.Core.List.{List, [], _∷_}
-use mathlib.Core.Option.{Option, none, some}
-use Prim.Native.Nat.{ℕ, zero, suc, _+_, _*_, _≤_, _<_}
-use native.Mathlib.Omega.{arith}
-use Rattle.places.specs.Store.{Kind, usg, Fam, slots, useSets, fam, Thing, Con, State, Live, Fit, UseHeld, Sound, leave, enter}
+use mathlib.Core.Path.{_≡_, sym, ap, _∙_}
+use mathlib.Core.List.{List}
+use mathlib.Core.Option.{none}
+use Prim.Native.Nat.{ℕ}
+use Rattle.places.specs.Store.{usg, useSets, State, UseHeld, leave, enter}
 use Rattle.places.specs.Edits.{moveUse}
 use Rattle.places.proofs.Steps.{own-left, some-inj}
 use Rattle.places.proofs.Placing.{fits}
 use Rattle.places.proofs.MoveUse.{moveUse-sound, moveUse-view}
 use Rattle.places.specs.View.{view}
 use Rattle.context.specs.declared.Layout.{Layout}
-use Rattle.context.specs.Layout.{ncOf, nnOf}
-use Rattle.context.specs.Memory.{con, stateOf, Well, SoundStore, Left, Entered, Stands}
+use Rattle.context.specs.Memory.{con, stateOf, SoundStore, Left, Entered, Stands}
 use Rattle.context.specs.Steps.{CanMove, Moved}
 use Rattle.context.proofs.Families.{con-holder}
-use Rattle.context.proofs.Places.{place<}
 
 module _ {l : Layout} {m : List ℕ} (u k : ℕ) (S : SoundStore l m) (C : CanMove (stateOf l m) u (con l useSets k)) where
   abbrev P : State

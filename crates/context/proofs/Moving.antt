@@ -1,15 +1,15 @@
 -- A region moves: the last region of its operation takes its gap, and it goes last in the other. Assumes nothing.
 use mathlib.Core.Path.{_≡_, refl, sym, ap, _∙_}
-use mathlib.Core.Logic.{_≢_, ⊎-elim, by-cases}
+use mathlib.Core.Logic.{_≢_, ⊎-elim}
 use mathlib.Core.List.{List, [], _∷_, _++_}
 use mathlib.Core.Option.{Option, none, some}
-use Prim.Native.Nat.{ℕ, zero, suc, _+_, _-_, _≤_, _<_}
+use Prim.Native.Nat.{ℕ, zero, suc, _+_, _-_, _<_}
 use native.Mathlib.Omega.{arith}
 use lib.ListN.{length}
 use Rattle.seqs.specs.Seqs.{tick, count, In, without, insertAt, lastOf, frontOf, swapOut}
 use Rattle.seqs.proofs.Base.{tick-yes, tick-no, count-append}
-use Rattle.places.specs.Store.{Kind, op, reg, Fam, regs, regions, fam, Thing, Thing-dec, Con, State, alive, Live, Link, Sound, enter, leave, relink}
-use Rattle.places.specs.Parts.{nodeIn, conOf, rowsOf}
+use Rattle.places.specs.Store.{op, reg, Fam, regs, regions, Thing, Thing-dec, Con, State, Live, Link, enter, leave, relink}
+use Rattle.places.specs.Parts.{conOf, rowsOf}
 use Rattle.places.proofs.Steps.{thing-eq, some-inj, some-none, once, listed, own-left, own-leave-other, own-enter-other, list-left, list-entered, owners}
 use Rattle.places.proofs.MoveRegion.{moveRegion-sound}
 use Rattle.context.specs.declared.Layout.{Layout}

@@ -1,20 +1,13 @@
 -- An operation is born: the law of the primitive. Assumes nothing.
-use mathlib.Core.Path.{_≡_, refl, sym, ap, _∙_}
-use mathlib.Core.List.{List, [], _∷_}
-use mathlib.Core.Option.{Option, none, some}
-use Prim.Native.Nat.{ℕ, zero, suc, _+_, _*_, _≤_, _<_}
-use native.Mathlib.Omega.{arith}
-use Rattle.places.specs.Store.{Kind, op, blk, Fam, opsIn, ops, fam, Thing, Thing-dec, Con, State, alive, Live, Link, Sound, birth, leave, enter}
-use Rattle.places.specs.Parts.{store, rowsOf}
+use mathlib.Core.Path.{_≡_, ap, _∙_}
+use mathlib.Core.List.{List}
+use Prim.Native.Nat.{ℕ, _≤_}
+use Rattle.places.specs.Store.{op, Thing-dec, birth}
+use Rattle.places.specs.Parts.{store}
 use Rattle.seqs.proofs.Base.{upd-upd}
-use Rattle.places.proofs.Steps.{Fresh, some-inj}
 use Rattle.places.proofs.Whole.{bear-sound}
 use Rattle.context.specs.declared.Layout.{Layout}
-use lib.ListN.{getD}
-use Rattle.linked_list.specs.Links.{home}
-use Rattle.context.specs.Layout.{ncOf, nnOf, famPart}
-use Rattle.context.proofs.Families.{stands}
-use Rattle.context.specs.Memory.{part, partsOf, con, stateOf, Well, SoundStore, Left, Entered, Stands, Borne, setTag, Tagged}
+use Rattle.context.specs.Memory.{partsOf, stateOf, SoundStore, Borne, setTag, Tagged}
 use Rattle.context.specs.Steps.{BorneOp}
 
 pub borne-op : {l : Layout} {m m₁ m₂ : List ℕ} (t p : ℕ) → SoundStore l m → t ≤ 3 → Borne l op m m₁ p → Tagged l (op, p) t m₁ m₂ → BorneOp l t m m₂ p

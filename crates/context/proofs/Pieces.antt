@@ -1,7 +1,7 @@
 -- A part is lent and comes back: the other parts are as they were. Assumes nothing.
 use mathlib.Core.Path.{_≡_, refl, sym, ap, _∙_}
 use mathlib.Core.Logic.{_≢_, by-cases}
-use mathlib.Core.List.{List, [], _∷_}
+use mathlib.Core.List.{List, []}
 use Prim.Native.Nat.{ℕ, _+_, _-_, _≤_, _<_}
 use native.Mathlib.Decide.{ℕ-discrete}
 use Rattle.seqs.specs.Seqs.{count}
@@ -12,10 +12,9 @@ use Rattle.seqs.proofs.Parts.{Swapped as SwappedIn, swap as swap-in, there as t
 pub use Rattle.seqs.proofs.Parts.{getD-out}
 use Rattle.linked_list.specs.Links.{Linked}
 use Rattle.arena.specs.Packed.{Packed}
-use Rattle.places.specs.Store.{Kind, op, blk, reg, val, usg, Fam, slots, useSets, vals, regs, opsIn, blocksIn, Fam-dec, Kind-dec}
+use Rattle.places.specs.Store.{Kind, op, blk, reg, val, usg, Fam, slots, useSets, vals, regs, opsIn, blocksIn, Fam-dec, Kind-dec, Thing, alive}
 use Rattle.context.specs.declared.Layout.{Layout}
 use Rattle.context.specs.Layout.{capOf, ncOf, nnOf, sizes, kindPart, famPart, kindOf, famOf}
-use Rattle.places.specs.Store.{Thing, alive}
 use Rattle.places.specs.Parts.{store, tableOf}
 use Rattle.context.specs.Memory.{part, bookIn, tagIn, partsOf, stateOf, Well}
 

@@ -1,9 +1,9 @@
 -- A memory of zeros with a header is an empty store. Assumes nothing.
 use mathlib.Core.Path.{_≡_, refl, sym, ap, _∙_}
-use mathlib.Core.Logic.{_≢_, ite, by-cases}
+use mathlib.Core.Logic.{ite, by-cases}
 use mathlib.Core.List.{List, [], _∷_}
 use mathlib.Core.Option.{Option, none}
-use Prim.Native.Nat.{ℕ, zero, suc, _+_, _-_, _*_, _≤_, _<_}
+use Prim.Native.Nat.{ℕ, zero, suc, _+_, _≤_, _<_}
 use native.Mathlib.Decide.{ℕ-discrete}
 use native.Mathlib.Omega.{arith}
 use lib.ListN.{length, getD, set, take, drop, length-drop, length-set, replicate}
@@ -22,7 +22,7 @@ use Rattle.places.specs.Parts.{nodeIn, store}
 use Rattle.places.proofs.Empty.{empty-sound}
 use Rattle.context.specs.declared.Layout.{Layout}
 use Rattle.context.specs.Layout.{capOf, ncOf, nnOf, sizes, total, arena, family, kindPart, famPart, Caps}
-use Rattle.context.specs.Memory.{part, decode, tagIn, partsOf, rowsFor, con, stateOf, SoundStore}
+use Rattle.context.specs.Memory.{part, decode, tagIn, partsOf, rowsFor, stateOf, SoundStore}
 use Rattle.context.specs.Steps.{Zeroed, Started}
 use Rattle.context.proofs.Pieces.{fam-part<, kind-part<}
 

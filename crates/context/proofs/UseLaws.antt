@@ -1,10 +1,10 @@
 -- A use ends, and a use is born: the laws of the primitives. Assumes nothing.
-use mathlib.Core.Path.{_≡_, refl, sym, ap, _∙_}
-use mathlib.Core.List.{List, [], _∷_}
-use mathlib.Core.Option.{Option, none, some}
-use Prim.Native.Nat.{ℕ, zero, suc, _+_, _*_, _≤_, _<_}
+use mathlib.Core.Path.{_≡_, sym, ap, _∙_}
+use mathlib.Core.List.{List}
+use mathlib.Core.Option.{none, some}
+use Prim.Native.Nat.{ℕ, _<_}
 use native.Mathlib.Omega.{arith}
-use Rattle.places.specs.Store.{Kind, usg, Fam, slots, useSets, fam, Thing, Con, State, alive, Live, Fit, UseHeld, Sound, birth, end, leave, enter}
+use Rattle.places.specs.Store.{usg, Fam, slots, useSets, State, Live, UseHeld, birth, end, leave, enter}
 use Rattle.places.specs.Edits.{endUse, birthUse}
 use Rattle.places.specs.Parts.{store}
 use Rattle.places.proofs.Steps.{own-leave-fam, own-enter-fam, alive-leave, dead-bare, some-inj}
@@ -13,8 +13,7 @@ use Rattle.places.proofs.EndUse.{endUse-sound}
 use Rattle.places.proofs.BirthUse.{birthUse-sound, birthUse-view}
 use Rattle.places.specs.View.{view}
 use Rattle.context.specs.declared.Layout.{Layout}
-use Rattle.context.specs.Layout.{ncOf, nnOf}
-use Rattle.context.specs.Memory.{partsOf, con, stateOf, Well, SoundStore, Left, Entered, Stands, Borne, Finished}
+use Rattle.context.specs.Memory.{partsOf, con, stateOf, SoundStore, Left, Entered, Stands, Borne, Finished}
 use Rattle.context.specs.Steps.{EndedUse, CanBear, BorneUse}
 use Rattle.context.proofs.Families.{con-back, con-holder}
 

@@ -1,16 +1,14 @@
 -- What a check of the parts finds. Assumes nothing: these are definitions.
 use mathlib.Core.Path.{_≡_}
 use mathlib.Core.List.{List, [], _∷_}
-use Prim.Native.Nat.{ℕ, zero, suc, _+_, _≤_, _<_}
+use Prim.Native.Nat.{ℕ, _≤_, _<_}
 use lib.ListN.{length, getD}
 use Rattle.linked_list.specs.Links.{Linked}
-use Rattle.arena.specs.Packed.{Packed}
-use Rattle.places.specs.Store.{Kind, Fam}
+use Rattle.arena.specs.Packed.{Packed, front}
+use Rattle.places.specs.Store.{Kind, Fam, alive}
 use Rattle.context.specs.declared.Layout.{Layout}
 use Rattle.context.specs.Layout.{capOf, ncOf, nnOf, total, kindPart, famPart}
 use Rattle.table.specs.Table.{stamp}
-use Rattle.arena.specs.Packed.{front}
-use Rattle.places.specs.Store.{alive}
 use Rattle.context.specs.Memory.{part, stateOf}
 
 -- the capacities stand in the header

@@ -2,14 +2,14 @@
 use mathlib.Core.Path.{_≡_}
 use mathlib.Core.List.{List, [], _∷_}
 use mathlib.Core.Option.{Option, none, some}
-use Prim.Native.Nat.{ℕ, zero, suc, _+_, _*_, _≤_, _<_}
+use Prim.Native.Nat.{ℕ, zero, suc, _≤_, _<_}
 use lib.ListN.{length, getD}
 use Rattle.seqs.specs.Split.{split}
 use Rattle.linked_list.specs.Links.{home, lists, Linked}
 use Rattle.table.specs.Table.{next, live}
 use Rattle.arena.specs.Packed.{Packed, front}
 use Rattle.seqs.specs.Seqs.{upd}
-use Rattle.places.specs.Store.{Thing-dec, Kind, op, blk, reg, val, usg, Fam, fam, Thing, Con, State, alive, Live, Sound, birth, end, enter, leave}
+use Rattle.places.specs.Store.{Thing-dec, Kind, op, blk, reg, val, usg, Fam, Thing, Con, State, alive, Live, Sound, birth, end, enter, leave}
 use Rattle.places.specs.View.{num}
 use Rattle.bits.specs.declared.Found.{Found}
 use Rattle.bits.specs.declared.Found.the-variants.{At, Nothing}

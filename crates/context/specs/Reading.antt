@@ -2,15 +2,15 @@
 -- Assumes nothing: these are definitions.
 use mathlib.Core.Path.{_≡_}
 use mathlib.Core.List.{List, [], _∷_, _++_}
-use mathlib.Core.Option.{Option, none, some}
-use Prim.Native.Nat.{ℕ, zero, suc, _+_, _≤_, _<_}
+use mathlib.Core.Option.{none, some}
+use Prim.Native.Nat.{ℕ, suc, _+_, _≤_, _<_}
 use lib.ListN.{length, getD}
 use Rattle.seqs.specs.Seqs.{lastOf}
-use Rattle.places.specs.Store.{Kind, Fam, Thing, Con, State, Live, enter}
+use Rattle.places.specs.Store.{Kind, Fam, Thing, Con, Live, enter}
 use Rattle.places.specs.Parts.{nodeIn}
 use Rattle.places.specs.View.{num}
 use Rattle.context.specs.declared.Layout.{Layout}
-use Rattle.context.specs.Layout.{capOf, ncOf, nnOf}
+use Rattle.context.specs.Layout.{capOf, nnOf}
 use Rattle.context.specs.Memory.{part, con, stateOf, headCode, Well}
 
 -- the list c of the store

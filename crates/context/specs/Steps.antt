@@ -3,16 +3,16 @@ use mathlib.Core.Path.{_≡_}
 use mathlib.Core.Logic.{_≢_}
 use Rattle.seqs.specs.Seqs.{swapOut}
 use mathlib.Core.List.{List, [], _∷_, _++_, map}
-use mathlib.Core.Option.{Option, none, some}
-use Prim.Native.Nat.{ℕ, zero, suc, _+_, _*_, _≤_, _<_}
-use lib.ListN.{length, getD, drop}
-use Rattle.places.specs.Store.{Kind, Role, op, blk, reg, val, usg, Fam, slots, useSets, vals, regs, opsIn, blocksIn, ops, valueUses, regions, fam, Thing, Thing-dec, Con, State, alive, empty, Live, Fit, Sound, Clear, up, birth, end, enter, leave, relink}
+use mathlib.Core.Option.{none, some}
+use Prim.Native.Nat.{ℕ, zero, _+_, _≤_, _<_}
+use lib.ListN.{length, getD}
+use Rattle.places.specs.Store.{Role, op, blk, reg, val, usg, Fam, slots, useSets, vals, regs, opsIn, blocksIn, valueUses, regions, Thing, Thing-dec, Con, State, alive, empty, Live, Fit, Clear, up, birth, end, enter, leave, relink}
 use Rattle.places.specs.View.{num, Names, view, named, namedC, nHold, nEnter, nBirth}
 use Rattle.places.specs.Edits.{nDrop, birthUse, nBirthUse, endUse, moveUse}
 use Rattle.places.specs.Parts.{nodeIn}
 use Rattle.places.specs.Walk.{cutAll}
 use Rattle.context.specs.declared.Layout.{Layout}
-use Rattle.context.specs.Layout.{capOf, ncOf, nnOf, total}
+use Rattle.context.specs.Layout.{capOf}
 use Rattle.context.specs.Memory.{headCode, con, part, stateOf, Well, SoundStore, RoomFor}
 
 -- the use at the place u can be held by d

@@ -1,22 +1,22 @@
-// The store in one lent memory: parts of it are lent to the lower crates.
-// After context.rs, value.rs, operation.rs, basic_block.rs and region.rs of pliron 0.20.0 (Apache-2.0).
+// The store in one lent memory: its layout, start, tables, look-ups and the check of its parts. The parts are lent to the lower crates.
+// After context.rs of pliron 0.20.0 (Apache-2.0); the modules are after the files that they are named after.
+pub mod lists; // lists.rt: nodes enter and leave lists
+pub mod value; // value.rt: values and uses
+pub mod operation; // operation.rt
+pub mod basic_block; // basic_block.rt
+pub mod region; // region.rt
+
 use bits::Found;
 ghost use mathlib.Core.Path.{_≡_};
-ghost use mathlib.Core.Bool.{true, false};
-ghost use mathlib.Core.List.{[], _++_};
-ghost use mathlib.Core.Option.{Option, none, some};
-ghost use Prim.Native.Nat.{ℕ, _+_, _-_, _*_, _/_, _≤_, _<_};
+ghost use Prim.Native.Nat.{_≤_, _<_};
 ghost use lib.ListN.{length, getD, set};
-ghost use Rattle.places.specs.Store.{State, Live, birth, end};
-ghost use Rattle.places.specs.Parts.{nodeIn};
-ghost use Rattle.context.specs.Layout.{capOf, ncOf, nnOf, sizes, total, famOf, kindOf, Caps, ArenaSize, FamiliesAt, SpanOf, RoomOf, TagsAt, TotalIs};
-ghost use Rattle.context.specs.Memory.{part, con, stateOf, Well, SoundStore, Left, Entered, Freed, Stands, RoomFor, Borne, Finished, Finds, MayTag, Tagged, HomeIs, LengthIs, RoomIs, FirstIs};
-ghost use Rattle.context.specs.Reading.{listOf, NextIs, PrevIs, LastIs, NthIs, EnteredBy, NumberIs, LiveIs, NextNumberIs, NthLiveIs, TagIs};
-ghost use Rattle.places.specs.Store.{op, blk, reg, val, usg, vals, useSets, slots, opsIn};
-ghost use Rattle.context.specs.Steps.{CanMove, Moved, EndedUse, CanBear, BorneUse, BorneOp, Zeroed, Started, DroppedAll, CanHold, BorneRegion, Unused, EndedValue, BorneBlock, CanBearValue, BorneValue, CanEnd, Ended, Member, CanLinkTo, LinkedTo, CanLinkBy, LinkedBy, Unlinked, SwappedOut, CanMoveRegion, MovedRegion};
+ghost use Rattle.places.specs.Store.{Live, op, val};
+ghost use Rattle.context.specs.Layout.{capOf, ncOf, nnOf, total, famOf, kindOf, Caps, ArenaSize, FamiliesAt, SpanOf, RoomOf, TagsAt, TotalIs, HasTag};
+ghost use Rattle.context.specs.Memory.{con, stateOf, Well, RoomFor, Borne, Finished, Finds, HomeIs, LengthIs, RoomIs, FirstIs};
+ghost use Rattle.context.specs.Reading.{listOf, NextIs, PrevIs, LastIs, NthIs, NumberIs, LiveIs, NextNumberIs, NthLiveIs};
+ghost use Rattle.context.specs.Steps.{Zeroed, Started};
 ghost use Rattle.context.specs.Start.{StartIs, WordsNeeded};
 ghost use Rattle.context.specs.Checked.{Headed, Fits, TableOk, FamilyOk, TablesOk, FamiliesOk, SpareAt, SpareIn, SpareOk};
-ghost use Rattle.context.specs.Layout.{HasTag};
 ghost use Rattle.arena.specs.Packed.{Packed};
 ghost use Rattle.seqs.specs.Seqs.{Says};
 
@@ -45,6 +45,17 @@ fn arena_size(n: usize) -> usize
     2 + n + n + (n + 63) / 64 * 2
 }
 
+// The part that starts at `at`.
+fn part_at(at: usize, nc: usize, nn: usize) -> Span
+    ensures { λ r. ⌜ (r .at ≡ at) × ((r .nc ≡ nc) × (r .nn ≡ nn)) ⌝ }
+{
+    Span {
+        at: at,
+        nc: nc,
+        nn: nn,
+    }
+}
+
 // Where the table of a kind stands: operations, blocks, regions, values, uses.
 pub fn table_span(l: Layout, k: usize) -> Span
     requires { ⌜ Caps l ⌝ }
@@ -56,38 +67,18 @@ pub fn table_span(l: Layout, k: usize) -> Span
     let v = arena_size(l.values);
     let u = arena_size(l.uses);
     if k == 0 {
-        return Span {
-            at: 5,
-            nc: l.ops,
-            nn: a,
-        };
+        return part_at(5, l.ops, a);
     }
     if k == 1 {
-        return Span {
-            at: 5 + a,
-            nc: l.blocks,
-            nn: b,
-        };
+        return part_at(5 + a, l.blocks, b);
     }
     if k == 2 {
-        return Span {
-            at: 5 + a + b,
-            nc: l.regions,
-            nn: r,
-        };
+        return part_at(5 + a + b, l.regions, r);
     }
     if k == 3 {
-        return Span {
-            at: 5 + a + b + r,
-            nc: l.values,
-            nn: v,
-        };
+        return part_at(5 + a + b + r, l.values, v);
     }
-    Span {
-        at: 5 + a + b + r + v,
-        nc: l.uses,
-        nn: u,
-    }
+    part_at(5 + a + b + r + v, l.uses, u)
 }
 
 // Where the families start.
@@ -110,93 +101,25 @@ pub fn family_span(l: Layout, f: usize) -> Span
 {
     let a = families_at(l);
     if f == 0 {
-        return Span {
-            at: a,
-            nc: 2 * l.ops,
-            nn: l.uses,
-        };
+        return part_at(a, 2 * l.ops, l.uses);
     }
     let b = a + 2 * (2 * l.ops) + 3 * l.uses;
     if f == 1 {
-        return Span {
-            at: b,
-            nc: l.values + l.blocks,
-            nn: l.uses,
-        };
+        return part_at(b, l.values + l.blocks, l.uses);
     }
     let c = b + 2 * (l.values + l.blocks) + 3 * l.uses;
     if f == 2 {
-        return Span {
-            at: c,
-            nc: l.ops + l.blocks,
-            nn: l.values,
-        };
+        return part_at(c, l.ops + l.blocks, l.values);
     }
     let d = c + 2 * (l.ops + l.blocks) + 3 * l.values;
     if f == 3 {
-        return Span {
-            at: d,
-            nc: l.ops,
-            nn: l.regions,
-        };
+        return part_at(d, l.ops, l.regions);
     }
     let e = d + 2 * l.ops + 3 * l.regions;
     if f == 4 {
-        return Span {
-            at: e,
-            nc: l.blocks,
-            nn: l.ops,
-        };
+        return part_at(e, l.blocks, l.ops);
     }
-    Span {
-        at: e + 2 * l.blocks + 3 * l.ops,
-        nc: l.regions,
-        nn: l.blocks,
-    }
-}
-
-// The node `n` leaves the list of the family `f` that it stands in.
-pub fn leave(m: &mut [u32], l: Layout, f: usize, n: usize)
-    requires { ⌜ Well l (now m) ⌝ }
-    requires { ⌜ Stands (stateOf l (now m)) (nodeIn (famOf f), n) (famOf f) ⌝ }
-    ensures { λ _. ⌜ Left l (famOf f) n (now (m .entry)) (now (m .exit)) ⌝ }
-{
-    let s = family_span(l, f);
-    let a = s.at;
-    let nc = s.nc;
-    let nn = s.nn;
-    let e = a + 2 * nc + 3 * nn;
-    linked_list::unlink(&mut m[a..e], nc, nn, n);
-}
-
-// The node `n` comes to stand at the back of the list `k` of the family `f`.
-pub fn enter_back(m: &mut [u32], l: Layout, f: usize, k: usize, n: usize)
-    requires { ⌜ Well l (now m) ⌝ }
-    requires { ⌜ (k < ncOf l (famOf f)) × (n < nnOf l (famOf f)) ⌝ }
-    requires { ⌜ stateOf l (now m) .own (nodeIn (famOf f), n) (famOf f) ≡ none ⌝ }
-    ensures { λ _. ⌜ Entered l (famOf f) k (nnOf l (famOf f)) n (now (m .entry)) (now (m .exit)) ⌝ }
-{
-    let s = family_span(l, f);
-    let a = s.at;
-    let nc = s.nc;
-    let nn = s.nn;
-    let e = a + 2 * nc + 3 * nn;
-    linked_list::insert_at_back(&mut m[a..e], nc, nn, k, n);
-}
-
-// The node `n` comes to stand at index `i` of the list `k` of the family `f`, or last.
-pub fn enter_at(m: &mut [u32], l: Layout, f: usize, k: usize, i: usize, n: usize)
-    requires { ⌜ Well l (now m) ⌝ }
-    requires { ⌜ (k < ncOf l (famOf f)) × (n < nnOf l (famOf f)) ⌝ }
-    requires { ⌜ stateOf l (now m) .own (nodeIn (famOf f), n) (famOf f) ≡ none ⌝ }
-    ensures { λ _. ⌜ Entered l (famOf f) k i n (now (m .entry)) (now (m .exit)) ⌝ }
-{
-    let s = family_span(l, f);
-    let a = s.at;
-    let nc = s.nc;
-    let nn = s.nn;
-    let e = a + 2 * nc + 3 * nn;
-    linked_list::insert_at(&mut m[a..e], nc, nn, k, i, n);
+    part_at(e + 2 * l.blocks + 3 * l.ops, l.regions, l.blocks)
 }
 
 // A thing of the kind `k` is born at the lowest free place.
@@ -337,53 +260,6 @@ pub fn nth_of(m: &[u32], l: Layout, f: usize, k: usize, i: usize) -> usize
     linked_list::nth(&m[a..e], nc, nn, k, i)
 }
 
-// The node `n` comes to stand first in the list `k` of the family `f`.
-pub fn enter_front(m: &mut [u32], l: Layout, f: usize, k: usize, n: usize)
-    requires { ⌜ Well l (now m) ⌝ }
-    requires { ⌜ (k < ncOf l (famOf f)) × (n < nnOf l (famOf f)) ⌝ }
-    requires { ⌜ stateOf l (now m) .own (nodeIn (famOf f), n) (famOf f) ≡ none ⌝ }
-    ensures { λ _. ⌜ Entered l (famOf f) k 0 n (now (m .entry)) (now (m .exit)) ⌝ }
-{
-    let s = family_span(l, f);
-    let a = s.at;
-    let nc = s.nc;
-    let nn = s.nn;
-    let e = a + 2 * nc + 3 * nn;
-    linked_list::insert_at_front(&mut m[a..e], nc, nn, k, n);
-}
-
-// The node `n` comes to stand right after the node `mark`, in the mark's list of the family `f`.
-pub fn enter_after(m: &mut [u32], l: Layout, f: usize, mark: usize, n: usize)
-    requires { ⌜ Well l (now m) ⌝ }
-    requires { ⌜ Stands (stateOf l (now m)) (nodeIn (famOf f), mark) (famOf f) ⌝ }
-    requires { ⌜ n < nnOf l (famOf f) ⌝ }
-    requires { ⌜ stateOf l (now m) .own (nodeIn (famOf f), n) (famOf f) ≡ none ⌝ }
-    ensures { λ _. ⌜ EnteredBy l (famOf f) mark n 1 (now (m .entry)) (now (m .exit)) ⌝ }
-{
-    let s = family_span(l, f);
-    let a = s.at;
-    let nc = s.nc;
-    let nn = s.nn;
-    let e = a + 2 * nc + 3 * nn;
-    linked_list::insert_after(&mut m[a..e], nc, nn, mark, n);
-}
-
-// The node `n` comes to stand right before the node `mark`, in the mark's list of the family `f`.
-pub fn enter_before(m: &mut [u32], l: Layout, f: usize, mark: usize, n: usize)
-    requires { ⌜ Well l (now m) ⌝ }
-    requires { ⌜ Stands (stateOf l (now m)) (nodeIn (famOf f), mark) (famOf f) ⌝ }
-    requires { ⌜ n < nnOf l (famOf f) ⌝ }
-    requires { ⌜ stateOf l (now m) .own (nodeIn (famOf f), n) (famOf f) ≡ none ⌝ }
-    ensures { λ _. ⌜ EnteredBy l (famOf f) mark n 0 (now (m .entry)) (now (m .exit)) ⌝ }
-{
-    let s = family_span(l, f);
-    let a = s.at;
-    let nc = s.nc;
-    let nn = s.nn;
-    let e = a + 2 * nc + 3 * nn;
-    linked_list::insert_before(&mut m[a..e], nc, nn, mark, n);
-}
-
 // Whether a place and a number are left: 0, or the refusal.
 pub fn room_for(m: &[u32], l: Layout, k: usize) -> u32
     requires { ⌜ Well l (now m) ⌝ }
@@ -490,115 +366,6 @@ fn get_cell(s: &[u32], i: usize) -> u32
     ensures { λ r. ⌜ r ≡ getD (now (s .entry)) i 0 ⌝ }
 {
     s[i]
-}
-
-// The operation at the place `p` gets the flags `v`; at a free place they are 0.
-pub fn put_flags(m: &mut [u32], l: Layout, p: usize, v: u32)
-    requires { ⌜ Well l (now m) ⌝ }
-    requires { ⌜ p < l .ops ⌝ }
-    requires { ⌜ MayTag (stateOf l (now m)) (op, p) v ⌝ }
-    ensures { λ _. ⌜ Tagged l (op, p) v (now (m .entry)) (now (m .exit)) ⌝ }
-{
-    let a = flags_at(l);
-    let e = a + l.ops;
-    put_cell(&mut m[a..e], p, v);
-}
-
-// The value at the place `p` gets the type `v`; at a free place it is 0.
-pub fn put_type(m: &mut [u32], l: Layout, p: usize, v: u32)
-    requires { ⌜ Well l (now m) ⌝ }
-    requires { ⌜ p < l .values ⌝ }
-    requires { ⌜ MayTag (stateOf l (now m)) (val, p) v ⌝ }
-    ensures { λ _. ⌜ Tagged l (val, p) v (now (m .entry)) (now (m .exit)) ⌝ }
-{
-    let a = types_at(l);
-    let e = a + l.values;
-    put_cell(&mut m[a..e], p, v);
-}
-
-// The flags of the operation at the place `p`.
-pub fn flags_of(m: &[u32], l: Layout, p: usize) -> u32
-    requires { ⌜ Well l (now m) ⌝ }
-    requires { ⌜ p < l .ops ⌝ }
-    ensures { λ r. ⌜ TagIs l (op, p) (now (m .entry)) r ⌝ }
-{
-    let a = flags_at(l);
-    let e = a + l.ops;
-    get_cell(&m[a..e], p)
-}
-
-// The type of the value at the place `p`.
-pub fn type_of(m: &[u32], l: Layout, p: usize) -> u32
-    requires { ⌜ Well l (now m) ⌝ }
-    requires { ⌜ p < l .values ⌝ }
-    ensures { λ r. ⌜ TagIs l (val, p) (now (m .entry)) r ⌝ }
-{
-    let a = types_at(l);
-    let e = a + l.values;
-    get_cell(&m[a..e], p)
-}
-
-// The use at the place `u` moves to the list `k` of the use sets.
-pub fn move_use(m: &mut [u32], l: Layout, u: usize, k: usize)
-    requires { ⌜ SoundStore l (now m) ⌝ }
-    requires { ⌜ k < ncOf l useSets ⌝ }
-    requires { ⌜ CanMove (stateOf l (now m)) u (con l useSets k) ⌝ }
-    ensures { λ _. ⌜ Moved l u k (now (m .entry)) (now (m .exit)) ⌝ }
-{
-    leave(m, l, 1, u); // out of the old definition's set
-    enter_back(m, l, 1, k, u);
-}
-
-// The use at the place `u` ends.
-pub fn end_use(m: &mut [u32], l: Layout, u: usize)
-    requires { ⌜ SoundStore l (now m) ⌝ }
-    requires { ⌜ Live (stateOf l (now m)) (usg, u) ⌝ }
-    ensures { λ _. ⌜ EndedUse l u (now (m .entry)) (now (m .exit)) ⌝ }
-{
-    leave(m, l, 0, u);
-    leave(m, l, 1, u);
-    finish(m, l, 4, u);
-}
-
-// A use is born at index `i` of the list `s` of the slots, held by the list `d` of the use sets.
-pub fn birth_use(m: &mut [u32], l: Layout, s: usize, i: usize, d: usize) -> usize
-    requires { ⌜ SoundStore l (now m) ⌝ }
-    requires { ⌜ (s < ncOf l slots) × (d < ncOf l useSets) ⌝ }
-    requires { ⌜ CanBear (stateOf l (now m)) (l .uses) (con l slots s) (con l useSets d) ⌝ }
-    ensures { λ u. ⌜ BorneUse l s i d (now (m .entry)) (now (m .exit)) u ⌝ }
-{
-    let u = bear(m, l, 4);
-    enter_at(m, l, 0, s, i, u);
-    enter_back(m, l, 1, d, u);
-    u
-}
-
-// An operation is born, in no block and with empty lists.
-pub fn birth_op(m: &mut [u32], l: Layout, flags: u32) -> usize
-    requires { ⌜ SoundStore l (now m) ⌝ }
-    requires { ⌜ RoomFor (stateOf l (now m)) op (l .ops) ⌝ }
-    requires { ⌜ flags ≤ 3 ⌝ }
-    ensures { λ p. ⌜ BorneOp l flags (now (m .entry)) (now (m .exit)) p ⌝ }
-{
-    let p = bear(m, l, 0);
-    put_flags(m, l, p, flags);
-    p
-}
-
-// All uses of the list `s` of the slots end: how many.
-pub fn drop_slots(m: &mut [u32], l: Layout, s: usize) -> usize
-    requires { ⌜ SoundStore l (now m) ⌝ }
-    requires { ⌜ s < ncOf l slots ⌝ }
-    ensures { λ n. ⌜ DroppedAll l s (now (m .entry)) (now (m .exit)) n ⌝ }
-{
-    let mut k = first_of(m, l, 0, s);
-    let mut n: usize = 0;
-    while k != 0 {
-        end_use(m, l, k - 1);
-        k = first_of(m, l, 0, s);
-        n += 1;
-    }
-    n
 }
 
 // The words of a store.
@@ -868,173 +635,4 @@ pub fn check_parts(m: &[u32], l: Layout) -> bool
         return false;
     }
     true
-}
-
-// A region is born, last in the operation at the place `o`.
-pub fn birth_region(m: &mut [u32], l: Layout, o: usize) -> usize
-    requires { ⌜ SoundStore l (now m) ⌝ }
-    requires { ⌜ CanHold (stateOf l (now m)) o (l .regions) ⌝ }
-    ensures { λ p. ⌜ BorneRegion l o (now (m .entry)) (now (m .exit)) p ⌝ }
-{
-    let p = bear(m, l, 2);
-    enter_back(m, l, 3, o, p);
-    p
-}
-
-// The value at the place `p`, which nothing uses, ends.
-pub fn end_value(m: &mut [u32], l: Layout, p: usize)
-    requires { ⌜ SoundStore l (now m) ⌝ }
-    requires { ⌜ Unused (stateOf l (now m)) p ⌝ }
-    ensures { λ _. ⌜ EndedValue l p (now (m .entry)) (now (m .exit)) ⌝ }
-{
-    leave(m, l, 2, p);
-    put_type(m, l, p, 0);
-    finish(m, l, 3, p);
-}
-
-// A block is born, in no region and with empty lists.
-pub fn birth_block(m: &mut [u32], l: Layout) -> usize
-    requires { ⌜ SoundStore l (now m) ⌝ }
-    requires { ⌜ RoomFor (stateOf l (now m)) blk (l .blocks) ⌝ }
-    ensures { λ p. ⌜ BorneBlock l (now (m .entry)) (now (m .exit)) p ⌝ }
-{
-    bear(m, l, 1)
-}
-
-// A value of the type `t` is born at index `i` of the list `k` of results and arguments.
-pub fn birth_value(m: &mut [u32], l: Layout, k: usize, i: usize, t: u32) -> usize
-    requires { ⌜ SoundStore l (now m) ⌝ }
-    requires { ⌜ k < ncOf l vals ⌝ }
-    requires { ⌜ CanBearValue (stateOf l (now m)) (l .values) (con l vals k) ⌝ }
-    ensures { λ p. ⌜ BorneValue l k i t (now (m .entry)) (now (m .exit)) p ⌝ }
-{
-    let p = bear(m, l, 3);
-    put_type(m, l, p, t);
-    enter_at(m, l, 2, k, i, p);
-    p
-}
-
-// The node `n` leaves its list of the family `f`, if it is in one.
-pub fn detach(m: &mut [u32], l: Layout, f: usize, n: usize)
-    requires { ⌜ Well l (now m) ⌝ }
-    requires { ⌜ n < nnOf l (famOf f) ⌝ }
-    ensures { λ _. ⌜ Freed l (famOf f) n (now (m .entry)) (now (m .exit)) ⌝ }
-{
-    let h = home_of(m, l, f, n);
-    if h == 0 {
-        return;
-    }
-    leave(m, l, f, n);
-}
-
-// The operation at the place `o`, linked or not, with nothing in its lists, ends.
-pub fn end_operation(m: &mut [u32], l: Layout, o: usize)
-    requires { ⌜ SoundStore l (now m) ⌝ }
-    requires { ⌜ CanEnd (stateOf l (now m)) (op, o) ⌝ }
-    ensures { λ _. ⌜ Ended l (op, o) (now (m .entry)) (now (m .exit)) ⌝ }
-{
-    detach(m, l, 4, o);
-    put_flags(m, l, o, 0);
-    finish(m, l, 0, o);
-}
-
-// The block at the place `b`, linked or not, with nothing in its lists, ends.
-pub fn end_block(m: &mut [u32], l: Layout, b: usize)
-    requires { ⌜ SoundStore l (now m) ⌝ }
-    requires { ⌜ CanEnd (stateOf l (now m)) (blk, b) ⌝ }
-    ensures { λ _. ⌜ Ended l (blk, b) (now (m .entry)) (now (m .exit)) ⌝ }
-{
-    detach(m, l, 5, b);
-    finish(m, l, 1, b);
-}
-
-// The region at the place `r`, with no blocks, leaves its operation, whose other regions keep their order, and ends.
-pub fn end_region(m: &mut [u32], l: Layout, r: usize)
-    requires { ⌜ SoundStore l (now m) ⌝ }
-    requires { ⌜ CanEnd (stateOf l (now m)) (reg, r) ⌝ }
-    ensures { λ _. ⌜ Ended l (reg, r) (now (m .entry)) (now (m .exit)) ⌝ }
-{
-    detach(m, l, 3, r);
-    finish(m, l, 2, r);
-}
-
-// The operation or block `n` is put first into the list `k` of the family `f`.
-pub fn link_front(m: &mut [u32], l: Layout, f: usize, k: usize, n: usize)
-    requires { ⌜ SoundStore l (now m) ⌝ }
-    requires { ⌜ Member (famOf f) ⌝ }
-    requires { ⌜ (k < ncOf l (famOf f)) × (n < nnOf l (famOf f)) ⌝ }
-    requires { ⌜ CanLinkTo (stateOf l (now m)) (famOf f) n (con l (famOf f) k) ⌝ }
-    ensures { λ _. ⌜ LinkedTo l (famOf f) k 0 n (now (m .entry)) (now (m .exit)) ⌝ }
-{
-    enter_front(m, l, f, k, n);
-}
-
-// The operation or block `n` is put last into the list `k` of the family `f`.
-pub fn link_back(m: &mut [u32], l: Layout, f: usize, k: usize, n: usize)
-    requires { ⌜ SoundStore l (now m) ⌝ }
-    requires { ⌜ Member (famOf f) ⌝ }
-    requires { ⌜ (k < ncOf l (famOf f)) × (n < nnOf l (famOf f)) ⌝ }
-    requires { ⌜ CanLinkTo (stateOf l (now m)) (famOf f) n (con l (famOf f) k) ⌝ }
-    ensures { λ _. ⌜ LinkedTo l (famOf f) k (nnOf l (famOf f)) n (now (m .entry)) (now (m .exit)) ⌝ }
-{
-    enter_back(m, l, f, k, n);
-}
-
-// The operation or block `n` is put right after the node `mark`.
-pub fn link_after(m: &mut [u32], l: Layout, f: usize, mark: usize, n: usize)
-    requires { ⌜ SoundStore l (now m) ⌝ }
-    requires { ⌜ Member (famOf f) ⌝ }
-    requires { ⌜ n < nnOf l (famOf f) ⌝ }
-    requires { ⌜ CanLinkBy (stateOf l (now m)) (famOf f) mark n ⌝ }
-    ensures { λ _. ⌜ LinkedBy l (famOf f) mark n 1 (now (m .entry)) (now (m .exit)) ⌝ }
-{
-    enter_after(m, l, f, mark, n);
-}
-
-// The operation or block `n` is put right before the node `mark`.
-pub fn link_before(m: &mut [u32], l: Layout, f: usize, mark: usize, n: usize)
-    requires { ⌜ SoundStore l (now m) ⌝ }
-    requires { ⌜ Member (famOf f) ⌝ }
-    requires { ⌜ n < nnOf l (famOf f) ⌝ }
-    requires { ⌜ CanLinkBy (stateOf l (now m)) (famOf f) mark n ⌝ }
-    ensures { λ _. ⌜ LinkedBy l (famOf f) mark n 0 (now (m .entry)) (now (m .exit)) ⌝ }
-{
-    enter_before(m, l, f, mark, n);
-}
-
-// The operation or block `n` is taken out of its list of the family `f`.
-pub fn unlink(m: &mut [u32], l: Layout, f: usize, n: usize)
-    requires { ⌜ SoundStore l (now m) ⌝ }
-    requires { ⌜ Member (famOf f) ⌝ }
-    requires { ⌜ Stands (stateOf l (now m)) (nodeIn (famOf f), n) (famOf f) ⌝ }
-    ensures { λ _. ⌜ Unlinked l (famOf f) n (now (m .entry)) (now (m .exit)) ⌝ }
-{
-    leave(m, l, f, n);
-}
-
-// The region at the place `r` leaves its operation, whose last region takes the gap.
-fn swap_out(m: &mut [u32], l: Layout, r: usize)
-    requires { ⌜ SoundStore l (now m) ⌝ }
-    requires { ⌜ Live (stateOf l (now m)) (reg, r) ⌝ }
-    ensures { λ _. ⌜ SwappedOut l r (now (m .entry)) (now (m .exit)) ⌝ }
-{
-    let h = home_of(m, l, 3, r);
-    let z = last_of(m, l, 3, h - 1);
-    if z == r + 1 {
-        leave(m, l, 3, r);
-        return;
-    }
-    leave(m, l, 3, z - 1);
-    enter_before(m, l, 3, r, z - 1);
-    leave(m, l, 3, r);
-}
-
-// The region at the place `r` moves to the operation at `o`, last; the last region of the old one takes the gap.
-pub fn move_region(m: &mut [u32], l: Layout, r: usize, o: usize)
-    requires { ⌜ SoundStore l (now m) ⌝ }
-    requires { ⌜ CanMoveRegion (stateOf l (now m)) r o ⌝ }
-    ensures { λ _. ⌜ MovedRegion l r o (now (m .entry)) (now (m .exit)) ⌝ }
-{
-    swap_out(m, l, r);
-    enter_back(m, l, 3, o, r);
 }

@@ -36,7 +36,7 @@ use Rattle.context.specs.Reading.{NextNumberIs}
 use Rattle.context.specs.Steps.{BorneBlock, CanBearValue, BorneValue}
 use Rattle.context.specs.Performed.{abs, Performed}
 use Rattle.context.proofs.Places.{place<}
-use Rattle.values.proofs.Performing.{refuses, accepts}
+use Rattle.context.proofs.Performing.{refuses, accepts}
 use Rattle.creation.specs.Room.{five, wants, spare, left, RoomIs}
 use Rattle.creation.specs.Made.{gone, Made, BlockReady, BlockPartly}
 use Rattle.creation.proofs.Listed.{part-none, part-more}

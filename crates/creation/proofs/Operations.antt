@@ -41,7 +41,7 @@ use Rattle.context.specs.Reading.{NextNumberIs}
 use Rattle.context.specs.Steps.{BorneOp, CanBearValue, BorneValue, CanBear, BorneUse, CanHold, BorneRegion}
 use Rattle.context.specs.Performed.{abs, Performed}
 use Rattle.context.proofs.Places.{place<}
-use Rattle.values.proofs.Performing.{refuses, accepts}
+use Rattle.context.proofs.Performing.{refuses, accepts}
 use Rattle.creation.specs.Room.{five, wants, spare, left, RoomIs}
 use Rattle.creation.specs.Made.{slotBy, Named, NamesIs, CanUse, Used, Counts, OperationReady, OperationTested, grown, least, OperationPartly, gone, Made}
 use Rattle.creation.proofs.Listed.{part-none, part-more}

@@ -118,12 +118,12 @@ pub fn new_block(m: &mut [u32], l: Layout, rec: &[u8]) -> Answer
         return Answer::Refused(c);
     }
     let x = context::next_number(m, l, 1);
-    let b = context::birth_block(m, l);
+    let b = context::basic_block::birth_block(m, l);
     let k = l.ops + b;
     let mut j = 0;
     while j < n {
         let t = edit::field(rec, 1 + j);
-        context::birth_value(m, l, k, j, t);
+        context::value::birth_value(m, l, k, j, t);
         j += 1;
     }
     Answer::Accepted(x, 0)
@@ -198,10 +198,10 @@ fn bear_use(m: &mut [u32], l: Layout, sl: usize, o: usize, i: usize, d: u32)
         return;
     };
     if sl == 0 {
-        context::birth_use(m, l, 2 * o, i, p);
+        context::value::birth_use(m, l, 2 * o, i, p);
         return;
     }
-    context::birth_use(m, l, 2 * o + 1, i, l.values + p);
+    context::value::birth_use(m, l, 2 * o + 1, i, l.values + p);
 }
 
 // The birth after `j` of a new operation at `o`: of a result, an operand, a successor or a region.
@@ -222,7 +222,7 @@ fn bear_part(
 {
     let x = edit::field(rec, 5 + j);
     if j < r {
-        context::birth_value(m, l, o, j, x);
+        context::value::birth_value(m, l, o, j, x);
         return;
     }
     let i = j - r;
@@ -235,7 +235,7 @@ fn bear_part(
         bear_use(m, l, 1, o, k, x);
         return;
     }
-    context::birth_region(m, l, o);
+    context::region::birth_region(m, l, o);
 }
 
 // Kind 1: an operation with its results, operands, successors and regions.
@@ -254,7 +254,7 @@ pub fn new_operation(m: &mut [u32], l: Layout, rec: &[u8]) -> Answer
     }
     let f = edit::field(rec, 0);
     let x = context::next_number(m, l, 0);
-    let o = context::birth_op(m, l, f);
+    let o = context::operation::birth_op(m, l, f);
     let n = r + a + s + g;
     let mut j = 0;
     while j < n {

@@ -126,7 +126,7 @@ fn byte(b: &[u8], i: usize) -> u32
 }
 
 // The 32-bit number whose lowest byte is byte `p`.
-fn number(b: &[u8], p: usize) -> u32
+pub fn number(b: &[u8], p: usize) -> u32
     requires { ⌜ p + 4 ≤ length (now b) ⌝ }
     ensures { λ r. ⌜ r ≡ number-at (now (b .entry)) p ⌝ }
 {

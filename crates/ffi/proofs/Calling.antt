@@ -14,7 +14,7 @@ use Rattle.context.specs.Checked.{Headed}
 use Rattle.context.specs.Performed.{abs}
 use Rattle.context.specs.Start.{StartIs, WordsNeeded}
 use Rattle.script.specs.Calls.{SoundWords, Edited}
-use Rattle.readers.proofs.Public.{headed}
+use Rattle.context.proofs.Checking.{headed}
 use Rattle.listing.specs.Writer.{Written}
 use Rattle.listing.specs.Lines.{repliesFrom}
 use Rattle.listing.proofs.Writing.{and-then}

@@ -1,7 +1,6 @@
 -- Edit 31 on the memory, each way out. Assumes nothing.
 use mathlib.Core.Path.{_≡_, refl, sym, ap, ap₂, _∙_, subst}
 use mathlib.Core.Logic.{_≢_, ite, if-pos, if-neg, ⊎-elim, by-cases}
-use mathlib.Core.Bool.{Bool, true, false}
 use mathlib.Core.List.{List, [], _∷_, _++_}
 use mathlib.Core.Option.{Option, none, some}
 use native.Mathlib.Omega.{arith}
@@ -11,13 +10,12 @@ use lib.ListN.{length}
 use Rattle.seqs.specs.Seqs.{count, In, insertAt, without, lastOf, swapOut}
 use Rattle.bits.specs.declared.Found.{Found}
 use Rattle.bits.specs.declared.Found.the-variants.{At, Nothing}
-use Rattle.edit.specs.declared.Answer.{Answer}
 use Rattle.edit.specs.declared.Answer.the-variants.{Accepted, Refused}
 use Rattle.edit.specs.Record.{move-region}
 use Rattle.rules.specs.State.{accept}
 use Rattle.rules.specs.Step.{answer}
-use Rattle.rules.specs.Refusal.{region-named, operation-named, named, missing, from-state, refusal-of}
-use Rattle.places.specs.Store.{Kind, Fam, op, reg, usg, regions, regs, fam, holderOf, Thing, Thing-dec, Con, State, Live, Link, Linked, Sound, relink, enter, leave}
+use Rattle.rules.specs.Refusal.{region-named, operation-named, named, missing, refusal-of}
+use Rattle.places.specs.Store.{Fam, op, reg, usg, regions, regs, holderOf, Thing, Thing-dec, Con, State, Live, Linked, Sound, relink, enter, leave}
 use Rattle.places.specs.View.{num}
 use Rattle.places.specs.Hist.{ruleState, meaning}
 use Rattle.places.specs.Parts.{conOf, rowsOf}
@@ -33,7 +31,7 @@ use Rattle.places.proofs.RuleMove.{moved-sound, move-accept, stay-accept, move-
 use Rattle.context.specs.declared.Layout.{Layout}
 use Rattle.context.specs.Layout.{nnOf}
 use Rattle.context.specs.Memory.{part, decode, con, stateOf, Well, SoundStore, HomeIs, LengthIs, Left, Entered, Stands, Finds}
-use Rattle.context.specs.Reading.{listOf, lastCode, LastIs, EnteredBy}
+use Rattle.context.specs.Reading.{lastCode, LastIs, EnteredBy}
 use Rattle.context.specs.Performed.{abs, Performed}
 use Rattle.context.proofs.Places.{place<}
 use Rattle.links.specs.declared.Tested.{Tested}

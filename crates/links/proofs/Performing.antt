@@ -1,72 +1,51 @@
 -- An edit of a list was refused, or carried out: the whole contract. Assumes nothing.
 use mathlib.Core.Path.{_≡_, refl, sym, ap, ap₂, _∙_, subst}
 use mathlib.Core.Logic.{_≢_}
-use mathlib.Core.List.{List, [], _∷_, _++_, map}
-use mathlib.Core.Option.{Option, none, some}
+use mathlib.Core.List.{List, [], _∷_, _++_}
+use mathlib.Core.Option.{none, some}
 use native.Mathlib.Omega.{arith}
-use Prim.Native.Nat.{ℕ, zero, suc, _+_, _-_, _<_, _≤_}
+use Prim.Native.Nat.{ℕ, suc, _+_, _-_, _<_, _≤_}
 use lib.ListN.{length, length-map, getD}
-use Rattle.seqs.specs.Seqs.{count}
 use Rattle.seqs.specs.Split.{split}
 use Rattle.linked_list.proofs.View.{row-short}
 use Rattle.linked_list.specs.Links.{lists}
-use Rattle.edit.specs.declared.Answer.{Answer}
 use Rattle.edit.specs.declared.Answer.the-variants.{Accepted, Refused}
-use Rattle.edit.specs.Answer.{Reply, clean, refuse, found, numbers-of}
+use Rattle.edit.specs.Answer.{clean, found}
 use Rattle.edit.specs.Record.{Member, operation, block, Edit, link-after, link-before, link-front, link-back, unlink}
 use Rattle.rules.specs.History.{History}
 use Rattle.rules.specs.State.{accept}
-use Rattle.rules.specs.Step.{answer, perform}
-use Rattle.rules.specs.Refusal.{member-named, named, missing, refusal-of}
-use Rattle.places.specs.Store.{Kind, op, blk, reg, Fam, fam, nodeOf, Limited, Thing, Thing-dec, Con, State, Live, Sound, enter, leave}
+use Rattle.rules.specs.Step.{answer}
+use Rattle.rules.specs.Refusal.{member-named, named, refusal-of}
+use Rattle.places.specs.Store.{Kind, Fam, fam, nodeOf, Limited, Thing, Thing-dec, Con, State, Live, Sound, enter, leave}
 use Rattle.places.specs.View.{num}
 use Rattle.places.specs.Hist.{meaning}
-use Rattle.places.specs.Parts.{nodeIn, Parts}
+use Rattle.places.specs.Parts.{nodeIn}
 use Rattle.places.specs.Members.{roleOf, memberAt, containerAt, listAt, homeOf, heldCode, position}
 use Rattle.places.proofs.Steps.{CanEnter, once}
 use Rattle.places.specs.Roles.{Unnamed}
-use Rattle.places.proofs.RuleRefusals as R
 use Rattle.places.proofs.RuleLinks.{split-at, linked-sound, unlinked-sound, front-accept, back-accept, after-accept, before-accept, unlink-accept}
-use Rattle.places.proofs.RuleLinkTests.{container-live, unlink-code}
+use Rattle.places.proofs.RuleLinkTests.{unlink-code}
 use Rattle.context.specs.declared.Layout.{Layout}
 use Rattle.context.specs.Layout.{ncOf, nnOf, famOf, famPart, sizes}
-use Rattle.context.specs.Memory.{part, partsOf, con, stateOf, Well, SoundStore, HomeIs, Entered, Left}
+use Rattle.context.specs.Memory.{part, partsOf, con, stateOf, Well, SoundStore, HomeIs, Entered, Left, Stands}
 use Rattle.context.specs.Reading.{listOf, EnteredBy}
 use Rattle.context.specs.Performed.{abs, Performed}
 use Rattle.context.proofs.Families.{list-at}
-use Rattle.links.specs.Tests.{memberOf, missingCode, MayEnter, Refuses, Entering, Beside}
-use Rattle.context.specs.Memory.{Stands}
-use Rattle.links.specs.Tests.{EnterTested, BesideTested}
+use Rattle.context.proofs.Performing.{refuses, accepts}
+use Rattle.links.specs.Tests.{memberOf, missingCode, MayEnter, Refuses, Entering, Beside, EnterTested, BesideTested}
 use Rattle.links.specs.declared.Tested.{Tested}
 use Rattle.links.specs.declared.Tested.the-variants.{No, Yes}
-use Rattle.links.proofs.Sorts.{by-sort, list-is, node-is, member<, container<, home-free, home-at, own-free, stands-at}
+use Rattle.links.proofs.Sorts.{by-sort, list-is, node-is, member<, container<, home-at, own-free, stands-at}
 use Rattle.links.proofs.Testing.{linked-15, linked-none, only-gone, only-there, is-there, not-there, missing-pos}
 
 module _ {l : Layout} {m : List ℕ} (S : SoundStore l m) (e : Edit) where
   pub refused : (t : ℕ) → 0 < t → refusal-of (abs l m) e ≡ t → Performed l e m m (Refused t)
-  unfolding numbers-of
-  refused t h r =
-      let z : t ≡ suc (t - 1) = omega (arith, h) in
-      let p : perform (abs l m) e ≡ (refuse (suc (t - 1)), abs l m) = R.refused (abs l m) e (t - 1) (r ∙ z) in
-      record {
-        sound = S;
-        reply = ap refuse z ∙ ap (λ (q : Reply × _). q .0) (sym p);
-        state = ap (λ (q : Reply × _). q .1) (sym p);
-        kept = λ d. refl;
-        rest = refl;
-      }
+  unfolding abs
+  refused t h r = refuses e S t r (λ z. absurd (omega (arith, h, z)))
 
   pub carried-out : {m′ : List ℕ} → SoundStore l m′ → refusal-of (abs l m) e ≡ 0 → ((k : History) → answer e (abs l m) k ≡ clean) → abs l m′ ≡ accept e (abs l m) → part l m′ 14 ≡ part l m 14 → Performed l e m m′ (Accepted 0 0)
-  unfolding numbers-of found clean
-  carried-out S′ r a s rest =
-      let p : perform (abs l m) e ≡ (answer e (abs l m) (accept e (abs l m) .history), accept e (abs l m)) = R.accepted (abs l m) e r in
-      record {
-        sound = S′;
-        reply = sym (ap (λ (q : Reply × _). q .0) p ∙ a (accept e (abs l m) .history));
-        state = s ∙ ap (λ (q : Reply × _). q .1) (sym p);
-        kept = λ d. absurd (d r);
-        rest = rest;
-      }
+  unfolding abs found clean
+  carried-out S′ r a s rest = accepts e S′ r s rest 0 0 (a (accept e (abs l m) .history))
 
 -- a list has no more nodes than there are
 pub list-short : {l : Layout} {m : List ℕ} → Well l m → (f : Fam) (k : ℕ) → k < ncOf l f → length (listOf l m (con l f k)) ≤ nnOf l f

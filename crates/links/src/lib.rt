@@ -246,7 +246,7 @@ pub fn link_front(m: &mut [u32], l: Layout, w: usize, x: u32, c: u32) -> Answer
     match t {
         Tested::No(r) => Answer::Refused(r),
         Tested::Yes(n, k) => {
-            context::enter_front(m, l, 4 + w, k, n);
+            context::lists::enter_front(m, l, 4 + w, k, n);
             Answer::Accepted(0, 0)
         }
     }
@@ -262,7 +262,7 @@ pub fn link_back(m: &mut [u32], l: Layout, w: usize, x: u32, c: u32) -> Answer
     match t {
         Tested::No(r) => Answer::Refused(r),
         Tested::Yes(n, k) => {
-            context::enter_back(m, l, 4 + w, k, n);
+            context::lists::enter_back(m, l, 4 + w, k, n);
             Answer::Accepted(0, 0)
         }
     }
@@ -278,7 +278,7 @@ pub fn link_after(m: &mut [u32], l: Layout, w: usize, x: u32, mark: u32) -> Answ
     match t {
         Tested::No(r) => Answer::Refused(r),
         Tested::Yes(n, k) => {
-            context::enter_after(m, l, 4 + w, k, n);
+            context::lists::enter_after(m, l, 4 + w, k, n);
             Answer::Accepted(0, 0)
         }
     }
@@ -294,7 +294,7 @@ pub fn link_before(m: &mut [u32], l: Layout, w: usize, x: u32, mark: u32) -> Ans
     match t {
         Tested::No(r) => Answer::Refused(r),
         Tested::Yes(n, k) => {
-            context::enter_before(m, l, 4 + w, k, n);
+            context::lists::enter_before(m, l, 4 + w, k, n);
             Answer::Accepted(0, 0)
         }
     }
@@ -314,7 +314,7 @@ pub fn unlink_from(m: &mut [u32], l: Layout, w: usize, x: u32) -> Answer
     if h == 0 {
         return Answer::Refused(16);
     }
-    context::leave(m, l, 4 + w, n);
+    context::lists::leave(m, l, 4 + w, n);
     Answer::Accepted(0, 0)
 }
 
@@ -369,12 +369,12 @@ fn take_out(m: &mut [u32], l: Layout, n: usize)
     let p = context::home_of(m, l, 3, n);
     let last = context::last_of(m, l, 3, p - 1);
     if last == n + 1 {
-        context::leave(m, l, 3, n);
+        context::lists::leave(m, l, 3, n);
         return;
     }
-    context::leave(m, l, 3, last - 1);
-    context::enter_before(m, l, 3, n, last - 1);
-    context::leave(m, l, 3, n);
+    context::lists::leave(m, l, 3, last - 1);
+    context::lists::enter_before(m, l, 3, n, last - 1);
+    context::lists::leave(m, l, 3, n);
 }
 
 // The region at `n` comes to stand last at the operation at `k`, if it is not there already.
@@ -389,7 +389,7 @@ fn hand_over(m: &mut [u32], l: Layout, n: usize, k: usize)
         return;
     }
     take_out(m, l, n);
-    context::enter_back(m, l, 3, k, n);
+    context::lists::enter_back(m, l, 3, k, n);
 }
 
 // Edit 31: the region `r` moves to the operation `o`. Refused: 9, 7, 17, 19; to its own operation nothing changes.

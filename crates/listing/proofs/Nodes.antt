@@ -9,7 +9,7 @@ use native.Mathlib.Omega.{arith}
 use borrow.Author.Tests.{eq-eqb, ne-eqb}
 use Rattle.places.specs.Store.{Kind, op, blk, reg, val, usg, Fam, Thing, Con, State, Live}
 use Rattle.places.specs.View.{num, homeBy}
-use Rattle.places.specs.Plain.{number}
+use Rattle.places.specs.Hist.{number}
 use Rattle.places.specs.Parts.{nodeIn, conOf, rowsOf}
 use Rattle.places.specs.Alias.{RState}
 use Rattle.edit.specs.Answer.{Reply}

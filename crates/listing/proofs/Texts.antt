@@ -6,8 +6,7 @@ use native.Mathlib.Omega.{arith}
 use lib.ListN.{length}
 use Rattle.places.specs.Store.{Kind, op, blk, reg, val, usg, Role, operands, successors, blockUses, results, arguments, regions, ops, blocks, Fam, slots, vals, regs, opsIn, blocksIn, Thing, Con, State, Live, up}
 use Rattle.places.specs.View.{num, recOf}
-use Rattle.places.specs.Plain.{defBy}
-use Rattle.places.specs.Hist.{opOf, blockOf, useOf, hist, ordersOf, ruleState, meaning}
+use Rattle.places.specs.Hist.{defBy, opOf, blockOf, useOf, hist, ordersOf, ruleState, meaning}
 use Rattle.places.specs.Parts.{rowsOf}
 use Rattle.places.specs.Alias.{RState}
 use Rattle.places.proofs.Bits.{tabled-view, find-view}

@@ -12,8 +12,7 @@ use Rattle.seqs.specs.Seqs.{tick}
 use Rattle.seqs.proofs.Base.{tick-yes, tick-no}
 use Rattle.places.specs.Store.{blk, val, usg, Role, operands, successors, valueUses, blockUses, results, arguments, regions, ops, blocks, Fam, useSets, Con, Con-dec, State, Live, UseHeld, owns}
 use Rattle.places.specs.View.{num, recOf}
-use Rattle.places.specs.Plain.{defBy}
-use Rattle.places.specs.Hist.{useOf, hist, ruleState, meaning}
+use Rattle.places.specs.Hist.{defBy, useOf, hist, ruleState, meaning}
 use Rattle.places.specs.Parts.{rowsOf, conOf}
 use Rattle.places.proofs.Steps.{some-none}
 use Rattle.places.proofs.Bits.{bit, bit-true, bit-false, tabled-view}

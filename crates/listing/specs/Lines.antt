@@ -7,8 +7,7 @@ use Prim.Native.Nat.{ℕ, zero, suc, _+_, _*_}
 use lib.ListN.{getD}
 use Rattle.places.specs.Store.{Kind, op, blk, reg, val, usg, blocks, Fam, slots, useSets, vals, regs, opsIn, blocksIn, Thing, State}
 use Rattle.places.specs.View.{num, homeBy, recOf}
-use Rattle.places.specs.Plain.{number, defBy}
-use Rattle.places.specs.Hist.{opOf, blockOf, useOf}
+use Rattle.places.specs.Hist.{number, defBy, opOf, blockOf, useOf}
 use Rattle.places.specs.Alias.{RState}
 use Rattle.edit.specs.Record.{Definition}
 use Rattle.edit.specs.Answer.{Reply}

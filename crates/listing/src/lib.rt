@@ -207,7 +207,7 @@ fn put_op(m: &[u32], l: Layout, p: usize, out: &mut [u8], at: usize) -> usize
     let n = context::number_of(m, l, 0, p);
     let a = put_field(b"op", n, out, at);
     let b = put_home(m, l, b" block", 4, 1, p, out, a);
-    let f = context::flags_of(m, l, p);
+    let f = context::operation::flags_of(m, l, p);
     let c = put_field(b" flags", f, out, b);
     let d = put_row(m, l, b" res", 2, 3, p, out, c);
     let e = put_row(m, l, b" opd", 0, 4, 2 * p, out, d);
@@ -252,7 +252,7 @@ fn put_value(m: &[u32], l: Layout, p: usize, out: &mut [u8], at: usize) -> usize
 {
     let n = context::number_of(m, l, 3, p);
     let a = put_field(b"value", n, out, at);
-    let t = context::type_of(m, l, p);
+    let t = context::value::type_of(m, l, p);
     let b = put_field(b" type", t, out, a);
     let c = put_uses(m, l, b" uses", p, out, b);
     put_byte(b'\n', out, c)

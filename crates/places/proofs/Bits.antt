@@ -1,23 +1,22 @@
 -- Tests as numbers, and tables by number. Assumes nothing.
-use mathlib.Core.Path.{_≡_, refl, sym, ap, ap₂, _∙_, subst, fun-ext}
-use mathlib.Core.Logic.{_≢_, by-cases, _⊎_, inl, inr, ⊎-elim}
-use mathlib.Core.Bool.{Bool, true, false, not, cond, _&&_, _||_}
-use mathlib.Core.List.{List, [], _∷_, _++_, map, map-map}
-use mathlib.Core.Option.{Option, none, some}
+use mathlib.Core.Path.{_≡_, refl, sym, ap, ap₂, _∙_, subst}
+use mathlib.Core.Logic.{by-cases}
+use mathlib.Core.Bool.{Bool, true, false, cond, _||_}
+use mathlib.Core.List.{List, [], _∷_, map, map-map}
+use mathlib.Core.Option.{some}
 use native.Mathlib.Decide.{ℕ-discrete}
 use native.Mathlib.Omega.{arith}
 use Prim.Native.Nat.{ℕ, zero, suc, _+_, _<_, _≤_}
 use lib.Dec.{T, eqb, eqb→eq, eqb-refl}
-use lib.ListN.{length}
-use Rattle.seqs.specs.Seqs.{tick, count, In, sum}
+use Rattle.seqs.specs.Seqs.{tick, count, In}
 use Rattle.places.specs.Store.{Kind, Thing, Thing-dec, State, alive, Live, Linked}
 use Rattle.places.specs.View.{Rec, num, recOf, view}
-use Rattle.places.specs.Plain.{tabled}
-use Rattle.places.specs.Walk.{pick, sgn, sift}
-use Rattle.rules.specs.Table.{Table, some-and, find, find-key, member, keep-keys, gather}
-use Rattle.seqs.proofs.Base.{tick-yes, tick-no, tick-pos, in-head, in-tail, count-append}
+use Rattle.places.specs.Hist.{tabled}
+use Rattle.places.specs.Walk.{pick, sgn}
+use Rattle.rules.specs.Table.{Table, find, find-key, member}
+use Rattle.seqs.proofs.Base.{tick-yes, tick-no, tick-pos, in-head, in-tail}
 use Rattle.places.proofs.Sees.{num-inj}
-use Rattle.places.proofs.Cut.{pick-0, pick-1, zero-or}
+use Rattle.places.proofs.Cut.{pick-1}
 
 abbrev pub bit : Bool → ℕ
 bit true = 1

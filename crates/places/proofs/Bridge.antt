@@ -1,15 +1,15 @@
 -- What the lower crates do to the parts is a step of the store. Assumes nothing.
-use mathlib.Core.Path.{_≡_, refl, sym, ap, _∙_, fun-ext}
-use mathlib.Core.Logic.{_≢_, _↔_, ite, if-pos, if-neg, by-cases, _⊎_, inl, inr, ⊎-elim}
+use mathlib.Core.Path.{_≡_, refl, sym, ap, _∙_}
+use mathlib.Core.Logic.{_≢_, ite, if-pos, if-neg, by-cases, ⊎-elim}
 use mathlib.Core.List.{List, [], _∷_, _++_, map}
-use mathlib.Core.Option.{Option, none, some}
+use mathlib.Core.Option.{Option, none}
 use native.Mathlib.Decide.{ℕ-discrete}
 use native.Mathlib.Omega.{arith}
-use Prim.Native.Nat.{ℕ, zero, suc, _+_, _<_}
-use Rattle.seqs.specs.Seqs.{upd, tick, count, withoutBy, without, In}
-use Rattle.places.specs.Store.{Kind, Kind-dec, Role, Role-dec, Fam, Fam-dec, fam, nodeOf, holderOf, Thing, Thing-dec, Con, Con-dec, Table, State, born, gone, relink, setList, setOwn}
+use Prim.Native.Nat.{ℕ, suc}
+use Rattle.seqs.specs.Seqs.{upd, count, withoutBy, without}
+use Rattle.places.specs.Store.{Kind-dec, Role, Role-dec, Fam, Fam-dec, fam, nodeOf, Thing, Thing-dec, Con, Con-dec, born, gone, relink, setList, setOwn}
 use Rattle.places.specs.Parts.{Book, Parts, Rows, lookup, places, tableOf, nodeIn, conOf, store, setRow}
-use Rattle.seqs.proofs.Base.{upd-at, upd-same, upd-other, upd2-same, upd2-cases, tick-no, tick-yes, map-append, map-withoutBy, in-head}
+use Rattle.seqs.proofs.Base.{upd2-same, upd2-cases, tick-yes, map-append}
 
 -- ---- tables
 

@@ -1,15 +1,15 @@
 -- Climbing from a live thing meets each operation once: at most as many as live. Assumes nothing.
 use mathlib.Core.Path.{_≡_, refl, sym, ap, _∙_, subst}
-use mathlib.Core.Logic.{_≢_, ite, if-pos, if-neg, by-cases}
+use mathlib.Core.Logic.{ite, by-cases}
 use mathlib.Core.HLevel.{Discrete}
-use mathlib.Core.List.{List, [], _∷_, _++_, map}
-use mathlib.Core.Option.{Option, none, some}
+use mathlib.Core.List.{List, [], _∷_}
+use mathlib.Core.Option.{Option}
 use native.Mathlib.Decide.{ℕ-discrete}
 use native.Mathlib.Omega.{arith}
-use Prim.Native.Nat.{ℕ, zero, suc, _+_, _<_, _≤_}
+use Prim.Native.Nat.{ℕ, suc, _+_, _≤_}
 use lib.ListN.{length}
 use Rattle.seqs.specs.Seqs.{tick, count, In, sum}
-use Rattle.places.specs.Store.{Kind, Kind-dec, op, Thing, Thing-dec, State, alive, Live, Linked, up, Ends}
+use Rattle.places.specs.Store.{Kind-dec, op, Thing, Thing-dec, State, alive, Live, Linked, up, Ends}
 use Rattle.seqs.proofs.Base.{tick-yes, tick-no, tick-pos, rises-once}
 use Rattle.places.proofs.Steps.{some-inj, some-none, up-live, thing-eq}
 use Rattle.seqs.proofs.Sums.{length-count, sum-one}

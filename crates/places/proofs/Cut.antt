@@ -1,18 +1,18 @@
 -- The store without some things is sound where nothing outside stands in a list of theirs. Assumes nothing.
-use mathlib.Core.Path.{_≡_, refl, sym, ap, ap₂, _∙_, subst, fun-ext}
-use mathlib.Core.Logic.{_≢_, by-cases, _⊎_, inl, inr, ⊎-elim}
+use mathlib.Core.Path.{_≡_, refl, sym, ap, _∙_, fun-ext}
+use mathlib.Core.Logic.{_⊎_, inl, inr, ⊎-elim}
 use mathlib.Core.HLevel.{Discrete}
-use mathlib.Core.List.{List, [], _∷_, _++_, map}
+use mathlib.Core.List.{List, [], _∷_, _++_}
 use mathlib.Core.Option.{Option, none, some}
 use native.Mathlib.Decide.{ℕ-discrete}
 use native.Mathlib.Omega.{arith}
 use Prim.Native.Nat.{ℕ, zero, suc, _+_, _<_, _≤_}
 use lib.ListN.{length}
-use Rattle.seqs.specs.Seqs.{upd, tick, count, withoutBy, without, In, Rises}
-use Rattle.places.specs.Store.{Kind, op, Role, Fam, Kind-dec, Role-dec, Fam-dec, fam, nodeOf, holderOf, Limited, Thing, Thing-dec, Con, Con-dec, Table, State, alive, Live, Tab, owns, Link, nest, outer, upBy, up, Ends, Linked, Placed, Sound, gone, end, leave, relink, setOwn, setList}
+use Rattle.seqs.specs.Seqs.{tick, count, In, Rises}
+use Rattle.places.specs.Store.{op, Fam, fam, Thing, Thing-dec, Con, Table, State, alive, Live, Tab, owns, Link, nest, upBy, up, Ends, Linked, Sound}
 use Rattle.places.specs.Walk.{pick, sgn, sift, goneBy, cutBy, among, cutAll}
-use Rattle.seqs.proofs.Base.{tick-yes, tick-no, tick-pos, in-head, in-tail, count-append, upd-at, upd-same, upd-other}
-use Rattle.places.proofs.Steps.{some-none, some-inj, owns-none}
+use Rattle.seqs.proofs.Base.{tick-no, in-head, in-tail, count-append, rises-on}
+use Rattle.places.proofs.Steps.{some-none, owns-none}
 
 -- ---- picking and sifting
 
@@ -147,19 +147,20 @@ cut-nothing P = λ i. record {
 abbrev pub Closed : (Thing → ℕ) → State → Type 0
 Closed p P = (x : Thing) (f : Fam) (c : Con) → P .own x f ≡ some c → 0 < p (c .1) → 0 < p x
 
-rises-sift : (num : ℕ → ℕ) (p : ℕ → ℕ) (l : List ℕ) → Rises num l → Rises (λ q. pick (p q) (num q) 0) (sift p l)
+-- what is left rises as before
+pub rises-sift : (num : ℕ → ℕ) (p : ℕ → ℕ) (l : List ℕ) → Rises num l → Rises num (sift p l)
 unfolding pick
 rises-sift num p [] h = tt
-rises-sift num p (y ∷ l) h = go (rises-sift num p l (h .1)) (p y) refl
+rises-sift num p (y ∷ l) h = go (rises-sift num p l (h .1)) (p y)
   where
-    go : Rises (λ q. pick (p q) (num q) 0) (sift p l) → (n : ℕ) → p y ≡ n → Rises (λ q. pick (p q) (num q) 0) (pick n (y ∷ sift p l) (sift p l))
-    go ih zero e = (λ q i. let s : (p q ≡ 0) × In ℕ-discrete q l = sift-in ℕ-discrete p q l i in omega (arith, h .0 q (s .1), pick-0 (p q) (num q) 0 (s .0), pick-0 (p y) (num y) 0 e), ih)
-    go ih (suc n) e = ih
+    go : Rises num (sift p l) → (n : ℕ) → Rises num (pick n (y ∷ sift p l) (sift p l))
+    go ih zero = (λ q i. h .0 q (sift-in ℕ-discrete p q l i .1), ih)
+    go ih (suc n) = ih
 
 tab-sift : (t : Table) (p : ℕ → ℕ) → Tab t → Tab (goneBy p t)
 tab-sift t p T =
     record {
-      rises = rises-sift (t .num) p (t .order) (T .rises);
+      rises = rises-on (t .num) (λ q. pick (p q) (t .num q) 0) (sift p (t .order)) (λ q i. pick-0 (p q) (t .num q) 0 (sift-in ℕ-discrete p q (t .order) i .0)) (rises-sift (t .num) p (t .order) (T .rises));
       below = λ q i. let s : (p q ≡ 0) × In ℕ-discrete q (t .order) = sift-in ℕ-discrete p q (t .order) i in omega (arith, T .below q (s .1), pick-0 (p q) (t .num q) 0 (s .0));
       fits = λ q i. T .fits q (sift-in ℕ-discrete p q (t .order) i .1);
     }
@@ -171,10 +172,6 @@ module _ (p : Thing → ℕ) (P : State) where
   pub alive-cut-0 : (x : Thing) → p x ≡ 0 → alive Q x ≡ alive P x
   unfolding alive cutBy
   alive-cut-0 x e = count-sift-0 ℕ-discrete (λ q. p (x .0, q)) (x .1) (P .tab (x .0) .order) e
-
-  pub alive-cut-1 : (x : Thing) → 0 < p x → alive Q x ≡ 0
-  unfolding alive cutBy
-  alive-cut-1 x e = count-sift-1 ℕ-discrete (λ q. p (x .0, q)) (x .1) (P .tab (x .0) .order) e
 
   pub live-cut : (x : Thing) → Live Q x → (p x ≡ 0) × Live P x
   unfolding alive cutBy

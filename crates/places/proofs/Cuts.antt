@@ -1,22 +1,20 @@
 -- Each primitive that ends a thing is a cut of that thing. Assumes nothing.
-use mathlib.Core.Path.{_≡_, refl, sym, ap, ap₂, _∙_, subst, fun-ext}
-use mathlib.Core.Logic.{_≢_, ite, if-pos, if-neg, by-cases, _⊎_, inl, inr, ⊎-elim}
+use mathlib.Core.Path.{_≡_, refl, sym, ap, ap₂, _∙_}
+use mathlib.Core.Logic.{_≢_, ite, by-cases, ⊎-elim}
 use mathlib.Core.HLevel.{Discrete}
-use mathlib.Core.List.{List, [], _∷_, _++_, map}
+use mathlib.Core.List.{List, [], _∷_}
 use mathlib.Core.Option.{Option, none, some}
 use native.Mathlib.Decide.{ℕ-discrete}
 use native.Mathlib.Omega.{arith}
-use Prim.Native.Nat.{ℕ, zero, suc, _+_, _<_, _≤_}
-use lib.ListN.{length}
-use Rattle.seqs.specs.Seqs.{upd, tick, count, withoutBy, without, In, Rises}
-use Rattle.places.specs.Store.{Kind, op, usg, Role, Fam, Kind-dec, Role-dec, Fam-dec, fam, nodeOf, holderOf, Limited, Thing, Thing-dec, Con, Con-dec, Table, State, alive, Live, Tab, owns, Link, nest, outer, upBy, up, Ends, Linked, Placed, UseHeld, Sound, gone, end, leave, relink, setOwn, setList}
+use Prim.Native.Nat.{ℕ, _+_, _<_}
+use Rattle.seqs.specs.Seqs.{upd, count, without}
+use Rattle.places.specs.Store.{Kind, usg, Role, Fam, Kind-dec, fam, Thing, Thing-dec, Con, State, Live, owns, Linked, UseHeld, Sound, gone, end, leave, relink, setOwn, setList}
 use Rattle.places.specs.Edits.{endUse}
 use Rattle.places.specs.Walk.{pick, sgn, sift, goneBy, cutBy, among, cutAll}
-use Rattle.seqs.proofs.Base.{tick-yes, tick-no, tick-pos, in-head, in-tail, count-append, upd-at, upd-same, upd-other, upd-image, upd-self, upd2-cases, count-gone}
-use Rattle.places.proofs.Steps.{thing-eq, some-none, some-inj, owns-none, Bare, once, leave-ok, lists, own-kept, owners, own-left, own-leave-fam, own-leave-other, list-leave-other, list-left}
+use Rattle.seqs.proofs.Base.{tick-yes, tick-no, tick-pos, upd-at, upd-other}
+use Rattle.places.proofs.Steps.{thing-eq, owns-none, once, leave-ok, lists, own-leave-other}
 use Rattle.places.proofs.EndUse.{bare₂, L₂}
-use Rattle.places.proofs.Cut.{pick-0, pick-1, zero-or, sift-on, sift-all, sift-sift, cut-cut, cut-same, Closed, cut-sound}
-use Rattle.places.proofs.Whole.{left-bare}
+use Rattle.places.proofs.Cut.{pick-0, pick-1, zero-or, sift-on, sift-all, sift-sift, cut-sound}
 
 abbrev one : Thing → Thing → ℕ
 one a x = among (a ∷ []) x

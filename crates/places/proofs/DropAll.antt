@@ -1,24 +1,20 @@
 -- Dropping a nest: the uses end one after the other; the store is then the one without them. Assumes nothing.
-use mathlib.Core.Path.{_≡_, refl, sym, ap, ap₂, _∙_, subst, fun-ext}
+use mathlib.Core.Path.{_≡_, refl, sym, ap, ap₂, _∙_, subst}
 use mathlib.Core.Logic.{_≢_, by-cases, _⊎_, inl, inr, ⊎-elim}
-use mathlib.Core.HLevel.{Discrete}
-use mathlib.Core.List.{List, [], _∷_, _++_, map}
+use mathlib.Core.List.{List, [], _∷_, _++_}
 use mathlib.Core.Option.{Option, none, some}
-use native.Mathlib.Decide.{ℕ-discrete}
 use native.Mathlib.Omega.{arith}
-use Prim.Native.Nat.{ℕ, zero, suc, _+_, _<_, _≤_}
-use lib.ListN.{length}
+use Prim.Native.Nat.{ℕ, _+_, _<_, _≤_}
 use Rattle.seqs.specs.Seqs.{tick, count, In, sum}
-use Rattle.places.specs.Store.{Kind, Kind-dec, op, blk, reg, val, usg, Role, operands, successors, valueUses, blockUses, results, arguments, regions, ops, blocks, Fam, slots, useSets, vals, regs, opsIn, blocksIn, fam, nodeOf, holderOf, Thing, Thing-dec, Con, Con-dec, State, alive, Live, Link, Linked, owns, outer, UseHeld, Sound}
-use Rattle.places.specs.Edits.{endUse}
-use Rattle.places.specs.Walk.{over, sift, gather, cutBy, among, cutAll, kids, walk, usesAt, dropList, dropped, endUseBy, endUseAt, endUses}
+use Rattle.places.specs.Store.{usg, Role, operands, successors, valueUses, blockUses, results, arguments, regions, ops, blocks, Fam, slots, useSets, vals, regs, opsIn, blocksIn, fam, nodeOf, Thing, Thing-dec, Con, Con-dec, State, Live, Link, Linked, owns, outer, UseHeld, Sound}
+use Rattle.places.specs.Walk.{over, among, cutAll, walk, usesAt, dropList, dropped, endUseBy, endUseAt, endUses}
 use Rattle.seqs.proofs.Base.{tick-yes, tick-no, tick-pos, in-head, in-tail, count-append}
-use Rattle.places.proofs.Steps.{some-inj, some-none, thing-eq, listed, once}
+use Rattle.places.proofs.Steps.{thing-eq, once}
 use Rattle.places.proofs.Placing.{use-holds-nothing}
-use Rattle.seqs.proofs.Sums.{sum-on, sum-add, sum-zero}
-use Rattle.places.proofs.Cut.{zero-or, sift-all, cut-append, cut-nothing, Closed, cut-linked, cut-sound, alive-cut-0, own-cut-0}
+use Rattle.seqs.proofs.Sums.{sum-on, sum-zero}
+use Rattle.places.proofs.Cut.{cut-append, cut-nothing, Closed, cut-sound, alive-cut-0}
 use Rattle.places.proofs.Cuts.{one-no, endUse-cut}
-use Rattle.places.proofs.Nest.{upTo, count-gather, gather-on, walk-eq, walk-once, walk-live, walk-same}
+use Rattle.places.proofs.Nest.{upTo, count-gather, walk-once}
 
 -- ---- uses end one after another
 

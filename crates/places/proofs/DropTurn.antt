@@ -1,23 +1,21 @@
 -- What the three functions that drop a nest need: the list of uses opened by one level, and one turn of the loop over the children. Assumes nothing.
-use mathlib.Core.Path.{_≡_, refl, sym, ap, ap₂, _∙_, subst, fun-ext}
-use mathlib.Core.Logic.{_≢_, ite, by-cases, _⊎_, inl, inr, ⊎-elim}
-use mathlib.Core.HLevel.{Discrete}
-use mathlib.Core.List.{List, [], _∷_, _++_, map}
+use mathlib.Core.Path.{_≡_, refl, sym, ap, _∙_}
+use mathlib.Core.Logic.{_≢_, ite, ⊎-elim}
+use mathlib.Core.List.{List, [], _∷_, _++_}
 use mathlib.Core.Option.{Option, none, some}
-use native.Mathlib.Decide.{ℕ-discrete}
 use native.Mathlib.Omega.{arith}
-use Prim.Native.Nat.{ℕ, zero, suc, _+_, _<_, _≤_}
+use Prim.Native.Nat.{ℕ, _+_, _<_}
 use lib.ListN.{length}
 use Rattle.seqs.specs.Seqs.{tick, count, In, sum}
-use Rattle.places.specs.Store.{Kind, Kind-dec, op, blk, reg, val, usg, Role, operands, successors, valueUses, blockUses, results, arguments, regions, ops, blocks, Fam, slots, useSets, vals, regs, opsIn, blocksIn, fam, nodeOf, holderOf, Thing, Thing-dec, Con, State, alive, Live, Link, Linked, outer, UseHeld, Sound}
-use Rattle.places.specs.Walk.{over, sift, gather, cutBy, among, cutAll, kids, walk, usesAt, valuesAt, dropList, dropped}
-use Rattle.seqs.proofs.Base.{tick-yes, tick-no, tick-pos, in-head, in-tail, count-append}
-use Rattle.places.proofs.Steps.{some-inj, some-none, thing-eq, listed}
+use Rattle.places.specs.Store.{Kind-dec, op, blk, reg, usg, Role, operands, successors, results, arguments, regions, ops, blocks, slots, fam, nodeOf, holderOf, Thing, Thing-dec, State, Linked, outer, Sound}
+use Rattle.places.specs.Walk.{over, gather, cutBy, among, cutAll, kids, walk, usesAt, valuesAt, dropList, dropped}
+use Rattle.seqs.proofs.Base.{tick-pos, in-head, count-append}
+use Rattle.places.proofs.Steps.{listed}
 use Rattle.places.proofs.Placing.{isUse}
 use Rattle.places.proofs.Climb.{opsOf}
-use Rattle.places.proofs.Cut.{zero-or, sift-all, cut-append, cut-nothing, Closed, cut-linked, cut-sound, alive-cut-0, own-cut-0}
-use Rattle.places.proofs.Nest.{kindCode, upTo, count-gather, gather-on, walk-eq, walk-once, walk-live, walk-same}
-use Rattle.places.proofs.DropAll.{UseList, uses-closed, uses-at, drop-count, drop-uses}
+use Rattle.places.proofs.Cut.{zero-or, sift-all, cut-append, cut-sound}
+use Rattle.places.proofs.Nest.{kindCode, upTo, gather-on, walk-eq, walk-same}
+use Rattle.places.proofs.DropAll.{uses-closed, uses-at, drop-count, drop-uses}
 
 -- ---- lists
 
@@ -42,10 +40,6 @@ module _ {A B : Type 0} (f : A → List B) where
   pub gather-gather : {C : Type 0} (g : C → List A) (l : List C) → gather f (gather g l) ≡ gather (λ k. gather f (g k)) l
   gather-gather g [] = refl
   gather-gather g (x ∷ l) = gather-append (g x) (gather g l) ∙ ap {B = List B} (λ r. gather f (g x) ++ r) (gather-gather g l)
-
-  pub length-gather : (l : List A) → length (gather f l) ≡ sum (λ x. length (f x)) l
-  length-gather [] = refl
-  length-gather (x ∷ l) = omega (arith, length-append (f x) (gather f l), length-gather l)
 
 -- ---- what each kind has
 

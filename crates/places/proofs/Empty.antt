@@ -1,10 +1,9 @@
 -- The empty store is sound. Assumes nothing.
 use mathlib.Core.Path.{_≡_, refl}
-use mathlib.Core.List.{List, []}
 use mathlib.Core.Option.{Option, none, some}
 use native.Mathlib.Omega.{arith}
 use Prim.Native.Nat.{ℕ}
-use Rattle.places.specs.Store.{Kind, State, alive, owns, upBy, nest, up, Ends, Sound, Thing, Fam, Con, empty}
+use Rattle.places.specs.Store.{Kind, alive, owns, upBy, nest, up, Ends, Sound, Fam, empty}
 use Rattle.places.proofs.Steps.{some-none}
 
 up-none : (n : Option Fam) → upBy (λ f. none) n ≡ none

@@ -1,18 +1,17 @@
 -- A use ends. Assumes nothing.
-use mathlib.Core.Path.{_≡_, refl, sym, ap, _∙_, subst}
-use mathlib.Core.Logic.{_≢_, by-cases}
-use mathlib.Core.List.{List, [], _∷_, _++_, map}
-use mathlib.Core.Option.{Option, none, some}
+use mathlib.Core.Path.{_≡_, refl, sym, ap, _∙_}
+use mathlib.Core.Logic.{_≢_}
+use mathlib.Core.Option.{none, some}
 use native.Mathlib.Omega.{arith}
 use Rattle.seqs.specs.Seqs.{without}
-use Prim.Native.Nat.{ℕ, zero, suc, _+_, _<_, _≤_}
-use lib.ListN.{length}
-use Rattle.places.specs.Store.{Kind, op, blk, reg, val, usg, Role, operands, successors, valueUses, blockUses, results, arguments, regions, ops, blocks, Fam, slots, useSets, vals, regs, opsIn, blocksIn, fam, nodeOf, holderOf, Limited, Thing, Thing-dec, Con, State, alive, Live, Link, nest, up, Clear, Linked, Fit, UseHeld, Placed, Sound, birth, end, enter, leave, relink, setOwn, setList}
-use Rattle.places.specs.View.{Names, shown, num, named, namedC, view, amend, setHome, nBirth, nEnd, nEnter, nLeave, nHold}
-use Rattle.places.specs.Edits.{birthUse, nBirthUse, endUse, nEndUse, moveUse, linkOp, unlinkOp, birthRegion, nBirthRegion}
-use Rattle.places.proofs.Steps.{Fresh, Bare, CanEnter, birth-linked, end-linked, enter-ok, leave-ok, alive-born, alive-birth, live-birth, alive-end, alive-ended, alive-enter, alive-leave, own-entered, own-left, own-enter-fam, own-leave-fam, own-enter-other, own-leave-other, listed, bare-of, list-left, list-leave-other, cap-end, dead-bare, some-none}
-use Rattle.places.proofs.Sees.{see-birth, num-new, num-old, not-new, see-end, num-end, see-enter, hold, see-leave, unhold, home-twice, end-amend}
-use Rattle.places.proofs.Placing.{Fits, fits, slots≢useSets, placed-but, use-holds-nothing, use-fams, isUse}
+use Prim.Native.Nat.{ℕ}
+use Rattle.places.specs.Store.{Kind, usg, fam, Thing, Thing-dec, Con, State, alive, Live, Link, Linked, UseHeld, Sound, end, leave, relink, setOwn, setList}
+use Rattle.places.specs.View.{num, named, namedC, view, amend, setHome, nEnd, nLeave}
+use Rattle.places.specs.Edits.{endUse, nEndUse}
+use Rattle.places.specs.May.{Bare}
+use Rattle.places.proofs.Steps.{end-linked, leave-ok, alive-end, alive-ended, alive-leave, own-left, own-leave-fam, own-leave-other, bare-of, list-left, list-leave-other, cap-end, some-none}
+use Rattle.places.proofs.Sees.{see-end, num-end, see-leave, unhold, end-amend}
+use Rattle.places.proofs.Placing.{Fits, fits, slots≢useSets, placed-but, use-holds-nothing, use-fams}
 
 module _ {P : State} (S : Sound P) (q : ℕ) (live : Live P (usg, q)) (held : UseHeld (P .own (usg, q))) where
   abbrev u : Thing
@@ -76,10 +75,6 @@ module _ {P : State} (S : Sound P) (q : ℕ) (live : Live P (usg, q)) (held : Us
       ∙ ap (nEnd usg (num P u)) (unhold L₁ def u in-def (F .unseen) ∙ ap (amend usg (num P u) (setHome (fam (def .0)) none)) (see-leave (S .linked) slot u in-slot (F .seen)))
       ∙ end-amend usg (num P u) (λ e. e) (setHome (fam (def .0)) none) (λ e. refl) _
       ∙ end-amend usg (num P u) (λ e. e) (setHome (fam (slot .0)) none) (λ e. refl) _
-
-  -- what is left of the others
-  pub endUse-dead : alive (endUse slot def u P) u ≡ 0
-  endUse-dead = alive-ended P₂ u
 
   pub endUse-live : (y : Thing) → y ≢ u → Live P y → Live (endUse slot def u P) y
   endUse-live y n h = omega (arith, alive-end P₂ u y n, alive₂ y)

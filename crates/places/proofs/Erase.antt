@@ -1,34 +1,26 @@
 -- Erasing a nest, once its uses have ended: what the three functions need. Assumes nothing.
-use mathlib.Core.Path.{_≡_, refl, sym, ap, ap₂, _∙_, subst, fun-ext}
-use mathlib.Core.Logic.{_≢_, by-cases, _⊎_, inl, inr, ⊎-elim}
-use mathlib.Core.HLevel.{Discrete}
+use mathlib.Core.Path.{_≡_, refl, ap, _∙_, subst}
+use mathlib.Core.Logic.{by-cases, ⊎-elim}
 use mathlib.Core.List.{List, [], _∷_, _++_, map}
 use mathlib.Core.Option.{Option, none, some}
 use native.Mathlib.Decide.{ℕ-discrete}
 use native.Mathlib.Omega.{arith}
-use Prim.Native.Nat.{ℕ, zero, suc, _+_, _<_, _≤_}
+use Prim.Native.Nat.{_<_, _≤_}
 use lib.ListN.{length}
-use Rattle.seqs.specs.Seqs.{tick, count, In, sum}
-use Rattle.places.specs.Store.{Kind, op, blk, reg, val, usg, Role, operands, successors, valueUses, blockUses, results, arguments, regions, ops, blocks, Fam, slots, useSets, vals, regs, opsIn, blocksIn, fam, nodeOf, holderOf, Thing, Thing-dec, Con, Con-dec, State, alive, Live, Link, Linked, Sound, outer, up, nest}
-use Rattle.places.specs.Walk.{over, pick, sgn, sift, gather, cutBy, among, cutAll, kids, walk, usesAt, valuesAt, dropList, dropped, defSets, markOf, strayAt, strays, straysIn, innards, everything, erased}
-use Rattle.seqs.proofs.Base.{tick-yes, tick-no, tick-pos, in-head, in-tail, count-append}
-use Rattle.places.proofs.Steps.{some-inj, some-none, thing-eq, listed, once}
-use Rattle.seqs.proofs.Sums.{count-map, sum-on}
-use Rattle.places.proofs.Climb.{opsOf}
-use Rattle.places.proofs.Cut.{zero-or, pick-0, pick-1, sift-all, sift-none, cut-append, cut-same, cut-cut, Closed, cut-linked, cut-sound}
+use Rattle.seqs.specs.Seqs.{count, In}
+use Rattle.places.specs.Store.{op, blk, reg, val, usg, Role, operands, successors, valueUses, blockUses, results, arguments, regions, ops, blocks, vals, Thing, Thing-dec, Con, Con-dec, State, Linked, outer, up}
+use Rattle.places.specs.Walk.{over, sift, gather, cutBy, among, cutAll, kids, walk, usesAt, valuesAt, defSets, innards}
+use Rattle.seqs.proofs.Base.{tick-pos, count-append}
+use Rattle.places.proofs.Cut.{zero-or, sift-all, Closed}
 use Rattle.places.proofs.Nest.{kindCode, upTo, count-gather, gather-on, walk-eq, walk-once, walk-same, walk-up, walk-self, kids-up}
-use Rattle.places.proofs.DropAll.{uses-at, values-at, drop-count, drop-uses}
-use Rattle.places.proofs.DropTurn.{append-assoc, gather-gather, gather-append, list-none, list-kept, walk-kept, part-sound}
-use Rattle.places.proofs.Tables.{sum-some}
-use Rattle.places.proofs.Outside.{innards-count, no-value, no-slot, not-walked, closed-by, Marks, held-inside, part-sum}
+use Rattle.places.proofs.DropAll.{values-at}
+use Rattle.places.proofs.DropTurn.{gather-gather}
+use Rattle.places.proofs.Outside.{innards-count, no-value, not-walked, closed-by, part-sum}
 
 -- nothing inside has a use or is used
 pub record Free (P : State) (x : Thing) : Type 0 where
   pub unusing : (z : Thing) → In Thing-dec z (walk P x) → usesAt P z ≡ []
   pub unused : (z : Thing) → In Thing-dec z (walk P x) → (c : Con) → In Con-dec c (defSets P z) → P .list (c .1) (c .0) ≡ []
-
-bag-eq : {A B : Type 0} (f : A → List B) (a : A) (l : List A) → gather f (a ∷ l) ≡ f a ++ gather f l
-bag-eq f a l = refl
 
 module _ {P : State} (S : Linked P) where
   pub innards-eq : (x : Thing) → innards P x ≡ (valuesAt P x ++ (x ∷ [])) ++ gather (innards P) (kids P x)
@@ -68,9 +60,6 @@ module _ {P : State} (S : Linked P) where
   kid-kind x (reg, p) i = omega arith
   kid-kind x (val, p) i = absurd (omega (arith, i, kids-up S x (val, p)))
   kid-kind x (usg, p) i = absurd (omega (arith, i, kids-up S x (usg, p)))
-
-  kid-in : (x y : Thing) → In Thing-dec y (kids P x) → In Thing-dec y (innards P y)
-  kid-in x y i = omega (arith, innards-count S y y, walk-self S y)
 
   -- what stands among the children or values of something inside is inside
   pub child-in : (x z y : Thing) → In Thing-dec z (walk P x) → In Thing-dec y (kids P z) → In Thing-dec y (innards P x)

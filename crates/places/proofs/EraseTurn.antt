@@ -1,28 +1,27 @@
 -- One turn of the loop over the children that are erased, and the end of the thing itself. Assumes nothing.
-use mathlib.Core.Path.{_≡_, refl, sym, ap, ap₂, _∙_, subst, fun-ext}
-use mathlib.Core.Logic.{_≢_, by-cases, _⊎_, inl, inr, ⊎-elim}
-use mathlib.Core.HLevel.{Discrete}
+use mathlib.Core.Path.{_≡_, refl, sym, ap, ap₂, _∙_, subst}
+use mathlib.Core.Logic.{_≢_, by-cases, ⊎-elim}
 use mathlib.Core.List.{List, [], _∷_, _++_, map}
-use mathlib.Core.Option.{Option, none, some}
+use mathlib.Core.Option.{Option, some}
 use native.Mathlib.Decide.{ℕ-discrete}
 use native.Mathlib.Omega.{arith}
 use Prim.Native.Nat.{ℕ, zero, suc, _+_, _<_, _≤_}
 use lib.ListN.{length}
 use Rattle.seqs.specs.Seqs.{tick, count, In, sum}
-use Rattle.places.specs.Store.{Kind, op, blk, reg, val, usg, Role, operands, successors, valueUses, blockUses, results, arguments, regions, ops, blocks, Fam, slots, useSets, vals, regs, opsIn, blocksIn, fam, nodeOf, holderOf, Thing, Thing-dec, Con, Con-dec, State, alive, Live, Link, Linked, Sound, outer, up, nest}
-use Rattle.places.specs.Walk.{over, pick, sgn, sift, gather, cutBy, among, cutAll, kids, walk, usesAt, valuesAt, dropList, dropped, defSets, markOf, straysIn, innards, everything, erased}
-use Rattle.seqs.proofs.Base.{tick-yes, tick-no, tick-pos, in-head, in-tail, count-append}
-use Rattle.places.proofs.Steps.{some-inj, some-none, thing-eq, listed, once}
+use Rattle.places.specs.Store.{val, usg, Role, operands, successors, valueUses, blockUses, results, arguments, regions, ops, blocks, slots, fam, nodeOf, holderOf, Thing, Thing-dec, Con, Con-dec, State, Link, Sound, outer}
+use Rattle.places.specs.Walk.{over, pick, sgn, sift, gather, cutBy, among, cutAll, kids, walk, valuesAt, dropList, dropped, straysIn, innards}
+use Rattle.seqs.proofs.Base.{tick-yes, tick-no, in-tail, count-append}
+use Rattle.places.proofs.Steps.{listed, once}
 use Rattle.places.proofs.Placing.{isUse}
 use Rattle.places.proofs.Climb.{opsOf}
-use Rattle.places.proofs.Cut.{zero-or, pick-0, pick-1, sift-all, sift-none, cut-append, cut-same, cut-cut, Closed, cut-linked, cut-sound}
-use Rattle.places.proofs.Nest.{kindCode, upTo, count-gather, gather-on, walk-eq, walk-once, walk-same, walk-self, kids-up}
-use Rattle.places.proofs.DropAll.{uses-at, values-at, drop-count, drop-uses}
-use Rattle.places.proofs.DropTurn.{append-assoc, append-nil, gather-append, list-none, list-kept, walk-kept, part-sound}
+use Rattle.places.proofs.Cut.{zero-or, sift-all, sift-none, cut-append, cut-same, Closed, cut-sound}
+use Rattle.places.proofs.Nest.{kindCode, count-gather, walk-self}
+use Rattle.places.proofs.DropAll.{drop-count, drop-uses}
+use Rattle.places.proofs.DropTurn.{append-assoc, append-nil, gather-append, list-none, list-kept, walk-kept}
 use Rattle.places.proofs.Tables.{sum-some}
 use Rattle.seqs.proofs.Sums.{sum-append, count-map}
 use Rattle.places.proofs.Outside.{innards-count, Marks, held-inside, part-sum}
-use Rattle.places.proofs.Erase.{Free, innards-eq, innards-once, free-kid, innards-closed, kid-kind, child-in, value-in, walk-stays, innards-stay, free-stays}
+use Rattle.places.proofs.Erase.{Free, innards-eq, innards-once, free-kid, innards-closed, kid-kind, walk-stays, innards-stay, free-stays}
 
 -- ---- after the drop nothing inside is used, if nothing was used from outside
 

@@ -1,14 +1,14 @@
 -- Lists of lists as functions, and removal by index as removal by element. Assumes nothing.
 use mathlib.Core.Path.{_≡_, refl, sym, ap, _∙_}
-use mathlib.Core.Logic.{_≢_, if-pos, if-neg, by-cases}
+use mathlib.Core.Logic.{if-pos, if-neg, by-cases}
 use mathlib.Core.HLevel.{Discrete}
 use mathlib.Core.List.{List, [], _∷_}
 use native.Mathlib.Decide.{ℕ-discrete}
 use native.Mathlib.Omega.{arith}
-use Prim.Native.Nat.{ℕ, zero, suc, _+_, _<_, _≤_}
+use Prim.Native.Nat.{ℕ, zero, suc, _<_}
 use lib.ListN.{length, getD, set}
 use lib.Seq.{getD-set-same, getD-set-other}
-use Rattle.seqs.specs.Seqs.{upd, tick, count, In, without, removeAt}
+use Rattle.seqs.specs.Seqs.{upd, count, In, without, removeAt}
 use Rattle.seqs.proofs.Base.{upd-at, upd-other, tick-yes, tick-no, in-head}
 
 -- what a lower crate says of `set ls c l` is an update of the rows

@@ -1,20 +1,19 @@
 -- A region moves to another operation: the last region takes its gap, and it goes last (or to index i). Assumes nothing.
 use mathlib.Core.Path.{_≡_, refl, sym, ap, _∙_, subst}
-use mathlib.Core.Logic.{_≢_, by-cases, ⊎-elim}
-use mathlib.Core.List.{List, [], _∷_, _++_, map}
-use mathlib.Core.Option.{Option, none, some}
+use mathlib.Core.Logic.{_≢_, ⊎-elim}
+use mathlib.Core.List.{List}
+use mathlib.Core.Option.{none, some}
 use native.Mathlib.Omega.{arith}
 use native.Mathlib.Decide.{ℕ-discrete}
-use Rattle.seqs.specs.Seqs.{without}
-use Prim.Native.Nat.{ℕ, zero, suc, _+_, _<_, _≤_}
+use Prim.Native.Nat.{ℕ, _<_}
 use lib.ListN.{length}
-use Rattle.places.specs.Store.{Kind, op, blk, reg, val, usg, Role, operands, successors, valueUses, blockUses, results, arguments, regions, ops, blocks, Fam, slots, useSets, vals, regs, opsIn, blocksIn, fam, nodeOf, holderOf, Limited, Thing, Thing-dec, Con, State, alive, Live, Link, nest, up, Clear, Linked, Fit, UseHeld, Placed, Sound, birth, end, enter, leave, relink, setOwn, setList}
-use Rattle.places.specs.View.{Names, changeList, shown, num, named, namedC, view, amend, setHome, nBirth, nEnd, nEnter, nLeave, nHold}
-use Rattle.places.specs.Edits.{birthUse, nBirthUse, endUse, nEndUse, moveUse, linkOp, unlinkOp, birthRegion, nBirthRegion}
-use Rattle.places.proofs.Steps.{Fresh, Bare, CanEnter, birth-linked, end-linked, enter-ok, leave-ok, alive-born, alive-birth, live-birth, alive-end, alive-ended, alive-enter, alive-leave, own-entered, own-left, own-enter-fam, own-leave-fam, own-enter-other, own-leave-other, listed, bare-of, dead-clear, dead-bare, some-none}
-use Rattle.places.proofs.Sees.{see-birth, num-new, num-old, not-new, see-end, num-end, see-enter, hold, see-leave, unhold, home-twice, end-amend}
-use Rattle.places.proofs.Placing.{Fits, fits, slots≢useSets, placed-but, use-holds-nothing, use-fams, isUse}
-use Rattle.seqs.specs.Seqs.{swapOut, count}
+use Rattle.places.specs.Store.{Kind, op, reg, regions, regs, Thing, Thing-dec, Con, State, Live, Link, up, Clear, Linked, Placed, Sound, enter, relink, setOwn, setList}
+use Rattle.places.specs.View.{changeList, num, named, view, amend, setHome, nEnter}
+use Rattle.places.specs.May.{CanEnter}
+use Rattle.places.proofs.Steps.{enter-ok, alive-enter, own-entered, own-enter-other}
+use Rattle.places.proofs.Sees.{see-enter}
+use Rattle.places.proofs.Placing.{placed-but}
+use Rattle.seqs.specs.Seqs.{swapOut}
 use Rattle.places.proofs.SwapOut.{count-swapOut, length-swapOut, map-swapOut}
 use Rattle.places.proofs.Steps.{leave-linked, once, own-kept, alive-relink, clear-kept, up-kept, owners, lists}
 use Rattle.places.proofs.Sees.{see-relink, listed-inj}

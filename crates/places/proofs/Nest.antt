@@ -1,19 +1,19 @@
 -- The walk reaches what climbs to where it starts, each thing once. Assumes nothing.
-use mathlib.Core.Path.{_≡_, refl, sym, ap, ap₂, _∙_, subst}
-use mathlib.Core.Logic.{_≢_, by-cases, _⊎_, inl, inr, ⊎-elim}
+use mathlib.Core.Path.{_≡_, refl, sym, ap, ap₂, _∙_}
+use mathlib.Core.Logic.{_≢_, by-cases, ⊎-elim}
 use mathlib.Core.HLevel.{Discrete}
-use mathlib.Core.List.{List, [], _∷_, _++_, map}
+use mathlib.Core.List.{List, [], _∷_, _++_}
 use mathlib.Core.Option.{Option, none, some}
 use native.Mathlib.Decide.{ℕ-discrete}
 use native.Mathlib.Omega.{arith}
 use Prim.Native.Nat.{ℕ, zero, suc, _+_, _<_, _≤_}
 use lib.ListN.{length}
 use Rattle.seqs.specs.Seqs.{tick, count, In, sum}
-use Rattle.places.specs.Store.{Kind, Kind-dec, op, blk, reg, val, usg, Role, operands, successors, valueUses, blockUses, results, arguments, regions, ops, blocks, Fam, slots, useSets, vals, regs, opsIn, blocksIn, fam, nodeOf, holderOf, Thing, Thing-dec, Con, Con-dec, State, alive, Live, Link, Linked, owns, nest, outer, upBy, up, Ends}
+use Rattle.places.specs.Store.{Kind, op, blk, reg, val, usg, Role, operands, successors, valueUses, blockUses, results, arguments, regions, ops, blocks, Fam, slots, useSets, vals, regs, opsIn, blocksIn, fam, nodeOf, Thing, Thing-dec, Con, Con-dec, State, alive, Live, Link, Linked, owns, nest, outer, upBy, up, Ends}
 use Rattle.places.specs.Walk.{over, gather, kids, walkBy, kinds, things, population, walk}
 use Rattle.seqs.proofs.Base.{tick-yes, tick-no, tick-pos, in-head, in-tail, count-append, rises-once}
-use Rattle.places.proofs.Steps.{some-inj, some-none, up-live, thing-eq, dead-bare, owns-none, listed}
-use Rattle.seqs.proofs.Sums.{sum-on, sum-add, sum-zero, sum-count, count-map, count-none}
+use Rattle.places.proofs.Steps.{some-inj, some-none, dead-bare}
+use Rattle.seqs.proofs.Sums.{sum-on, sum-add, sum-zero, count-map, count-none}
 use Rattle.places.proofs.Climb.{path, path-once, path-live, opsOf, count-ops, pigeon}
 use Rattle.places.proofs.Fuel.{bind}
 use Rattle.places.proofs.Cut.{zero-or}

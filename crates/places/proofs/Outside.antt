@@ -1,24 +1,21 @@
 -- Where no definition inside is used from outside, all inside may end. Assumes nothing.
-use mathlib.Core.Path.{_≡_, refl, sym, ap, ap₂, _∙_, subst, fun-ext}
-use mathlib.Core.Logic.{_≢_, by-cases, _⊎_, inl, inr, ⊎-elim}
+use mathlib.Core.Path.{_≡_, refl, sym, ap, ap₂, _∙_, subst}
+use mathlib.Core.Logic.{_≢_, by-cases, ⊎-elim}
 use mathlib.Core.HLevel.{Discrete}
 use mathlib.Core.List.{List, [], _∷_, _++_, map}
 use mathlib.Core.Option.{Option, none, some}
-use native.Mathlib.Decide.{ℕ-discrete}
 use native.Mathlib.Omega.{arith}
-use Prim.Native.Nat.{ℕ, zero, suc, _+_, _<_, _≤_}
+use Prim.Native.Nat.{ℕ, _+_, _<_, _≤_}
 use lib.ListN.{length}
 use Rattle.seqs.specs.Seqs.{tick, count, In, sum}
-use Rattle.places.specs.Store.{Kind, op, blk, reg, val, usg, Role, operands, successors, valueUses, blockUses, results, arguments, regions, ops, blocks, Fam, slots, useSets, vals, regs, opsIn, blocksIn, fam, nodeOf, holderOf, Thing, Thing-dec, Con, Con-dec, State, alive, Live, Link, Linked, Sound, outer, upBy, up, nest}
-use Rattle.places.specs.Walk.{over, pick, sgn, sift, gather, cutBy, among, cutAll, kids, walk, usesAt, valuesAt, dropList, dropped, defSets, markOf, strayAt, strays, straysIn, innards, everything, erased}
+use Rattle.places.specs.Store.{op, blk, reg, val, usg, Role, operands, successors, valueUses, blockUses, results, arguments, regions, ops, blocks, Fam, slots, useSets, vals, regs, opsIn, blocksIn, fam, nodeOf, holderOf, Thing, Thing-dec, Con, Con-dec, State, Live, Link, Linked, Sound, outer, upBy, up, nest}
+use Rattle.places.specs.Walk.{over, sgn, sift, gather, among, cutAll, walk, usesAt, valuesAt, dropList, dropped, defSets, markOf, strayAt, strays, straysIn, innards, everything, erased}
 use Rattle.seqs.proofs.Base.{tick-yes, tick-no, tick-pos, in-head, in-tail, count-append}
-use Rattle.places.proofs.Steps.{some-inj, some-none, thing-eq, listed, once}
-use Rattle.places.proofs.Placing.{use-holds-nothing}
-use Rattle.seqs.proofs.Sums.{sum-on, sum-add, sum-zero, count-map, in-map}
-use Rattle.places.proofs.Cut.{zero-or, pick-0, pick-1, count-sift, count-sift-0, cut-append, Closed, cut-sound}
-use Rattle.places.proofs.Nest.{kindCode, upTo, count-gather, walk-once, walk-live, walk-up, walk-top, walk-self, kids-up}
-use Rattle.places.proofs.DropAll.{UseList, uses-at, values-at, sum-upTo, drop-count, drop-uses, slot-roles, fam-code}
-use Rattle.places.proofs.Tables.{sum-some}
+use Rattle.places.proofs.Steps.{thing-eq, once}
+use Rattle.seqs.proofs.Sums.{sum-on, count-map}
+use Rattle.places.proofs.Cut.{zero-or, pick-0, pick-1, count-sift-0, cut-append, Closed, cut-sound}
+use Rattle.places.proofs.Nest.{kindCode, upTo, count-gather, walk-up, walk-top, walk-self}
+use Rattle.places.proofs.DropAll.{uses-at, values-at, sum-upTo, drop-count, drop-uses, slot-roles, fam-code}
 
 -- ---- what is inside
 
@@ -40,10 +37,6 @@ module _ {P : State} (S : Linked P) (x : Thing) where
 
   pub everything-count : (y : Thing) → among (everything P x) y ≡ over (outer (P .own y slots)) W + (over (outer (P .own y vals)) W + W y)
   everything-count y = count-append Thing-dec y (dropList P x) (innards P x) ∙ ap₂ _+_ (drop-count S x y) (innards-count y)
-
-  -- of a thing in a list of the family f, only f counts
-  own-kind : (y : Thing) (f : Fam) (c : Con) → P .own y f ≡ some c → y .0 ≡ nodeOf (c .0)
-  own-kind y f c e = S .link y f c e .node
 
   pub no-slot : (y : Thing) → kindCode (y .0) ≢ 4 → over (outer (P .own y slots)) W ≡ 0
   unfolding kindCode
@@ -94,9 +87,6 @@ Marks P mk x = (o : ℕ) → Live P (op, o) → sgn (mk o) ≡ sgn (count Thing-
 
 pub sgn-pos : (m n : ℕ) → sgn m ≡ sgn n → 0 < m → 0 < n
 sgn-pos m n e h = ⊎-elim (λ z. absurd (omega (arith, e, pick-1 {A = ℕ} m 0 1 h, pick-0 {A = ℕ} n 0 1 z))) (λ z. z) (zero-or n)
-
-pub sgn-zero : (m n : ℕ) → sgn m ≡ sgn n → m ≡ 0 → n ≡ 0
-sgn-zero m n e h = ⊎-elim (λ z. z) (λ z. absurd (omega (arith, e, pick-0 {A = ℕ} m 0 1 h, pick-1 {A = ℕ} n 0 1 z))) (zero-or n)
 
 pub sgn-iff : (m n : ℕ) → (0 < m → 0 < n) → (0 < n → 0 < m) → sgn m ≡ sgn n
 sgn-iff m n f g = ⊎-elim (λ z. pick-0 m 0 1 z ∙ sym (pick-0 n 0 1 (⊎-elim (λ w. w) (λ w. absurd (omega (arith, g w))) (zero-or n)))) (λ z. pick-1 m 0 1 z ∙ sym (pick-1 n 0 1 (f z))) (zero-or m)

@@ -1,14 +1,14 @@
 -- The rows of a store, and the two steps on lists as changes of a row. Assumes nothing.
-use mathlib.Core.Path.{_≡_, refl, sym, ap, _∙_}
-use mathlib.Core.Logic.{_≢_, _↔_, ite, if-pos, if-neg}
-use mathlib.Core.List.{List, [], _∷_, _++_, map}
-use mathlib.Core.Option.{Option, none, some}
+use mathlib.Core.Path.{_≡_, refl, ap, _∙_}
+use mathlib.Core.Logic.{if-pos, if-neg}
+use mathlib.Core.List.{List, [], map}
+use mathlib.Core.Option.{none, some}
 use native.Mathlib.Decide.{ℕ-discrete, decLt}
 use native.Mathlib.Omega.{arith}
-use Prim.Native.Nat.{ℕ, zero, suc, _+_, _-_, _*_, _/_, _%_, _<_}
-use Rattle.seqs.specs.Seqs.{upd, count, insertAt, without, withoutBy}
-use Rattle.places.specs.Store.{Kind, op, blk, reg, val, usg, Role, operands, successors, valueUses, blockUses, results, arguments, regions, ops, blocks, Fam, fam, nodeOf, holderOf, Thing, Thing-dec, Con, Con-dec, State, Kind-dec, born, gone, birth, end, enter, leave}
-use Rattle.places.specs.Parts.{Book, Parts, Rows, places, tableOf, bornBook, goneBook, bookBirth, bookEnd, nodeIn, conOf, store, setRow, rowsOf}
+use Prim.Native.Nat.{ℕ, _+_, _*_, _%_, _<_}
+use Rattle.seqs.specs.Seqs.{upd, count, insertAt, without}
+use Rattle.places.specs.Store.{Kind, op, blk, Role, operands, successors, valueUses, blockUses, results, arguments, regions, ops, blocks, fam, nodeOf, holderOf, Thing, Thing-dec, Con, Con-dec, Kind-dec, born, gone, birth, end, enter, leave}
+use Rattle.places.specs.Parts.{Parts, Rows, places, tableOf, bornBook, goneBook, bookBirth, bookEnd, nodeIn, store, setRow, rowsOf}
 use Rattle.seqs.proofs.Base.{upd-image, map-insertAt, map-withoutBy}
 use Rattle.places.proofs.Bridge.{row-bridge, book-born, book-gone}
 

@@ -1,29 +1,27 @@
 -- An accepted edit that ends no operation, block or value: what is to be shown of the store after it, table by table; and how many uses
 -- have ended. Assumes nothing.
-use mathlib.Core.Path.{_≡_, refl, sym, ap, ap₂, _∙_, subst}
-use mathlib.Core.Logic.{_≢_, ite, by-cases}
-use mathlib.Core.Bool.{Bool, true, false, not, cond}
-use mathlib.Core.List.{List, [], _∷_, _++_, map, map-map, append-nil}
+use mathlib.Core.Path.{_≡_, refl, sym, ap, ap₂, _∙_}
+use mathlib.Core.Bool.{Bool, true, not}
+use mathlib.Core.List.{List, [], _∷_, _++_, map, append-nil}
 use native.Mathlib.Decide.{ℕ-discrete}
 use native.Mathlib.Omega.{arith}
-use Prim.Native.Nat.{ℕ, zero, suc, _+_, _-_, _<_, _≤_}
-use lib.Dec.{eqb}
+use Prim.Native.Nat.{ℕ, suc, _+_, _-_, _<_, _≤_}
 use lib.ListN.{length}
-use Rattle.seqs.specs.Seqs.{tick, count, In, Rises}
-use Rattle.places.specs.Store.{Kind, op, blk, reg, val, usg, State, Table, Tab, alive, Live, Linked, Sound}
-use Rattle.places.specs.View.{Rec, Names, num, recOf, view, amendIn}
-use Rattle.places.specs.Plain.{tabled}
-use Rattle.places.specs.Hist.{capsOf, hist, ordersOf, ruleState, meaning}
-use Rattle.places.specs.Walk.{pick, sgn, sift}
+use Rattle.seqs.specs.Seqs.{In, Rises}
+use Rattle.places.specs.Store.{Kind, op, blk, reg, val, usg, Thing, Table, State, alive, Live, Linked, Sound}
+use Rattle.places.specs.View.{Rec, num, recOf, view}
+use Rattle.places.specs.Hist.{tabled, hist, ordersOf, ruleState, meaning}
+use Rattle.places.specs.Walk.{pick}
 use Rattle.places.specs.Accepts.{Accepts}
 use Rattle.edit.specs.Record.{Edit}
-use Rattle.rules.specs.Table.{keep-keys, number, change}
-use Rattle.rules.specs.History.{Five, History, remember, live-operation, live-value}
+use Rattle.rules.specs.Table.{keep-keys, number}
+use Rattle.rules.specs.History.{History, zeros, plus, births, bear, carry-out, remember, live-operation, live-value}
 use Rattle.rules.specs.Orders.{Orders, reorder}
 use Rattle.rules.specs.State.{new-flags, new-types, accept}
-use Rattle.seqs.proofs.Base.{tick-yes, tick-no, tick-pos, in-head, in-tail}
+use Rattle.seqs.proofs.Base.{in-head, in-tail}
 use Rattle.places.proofs.Cut.{sift-all}
-use Rattle.places.proofs.Bits.{bit, bit-eqb, tabled-view}
+use Rattle.places.proofs.Bits.{bit, tabled-view}
+use Rattle.places.proofs.Entries.{plus-zeros}
 use Rattle.places.proofs.Tables.{keep-tabled}
 use Rattle.places.proofs.RuleNames.{operation-live, value-live}
 
@@ -56,7 +54,20 @@ accept-is {P} {Q} S e n k A =
       capacities = record { operations = A .caps op i; blocks = A .caps blk i; regions = A .caps reg i; values = A .caps val i; uses = A .caps usg i };
     }
 
--- an edit that gives birth to no operation, block, region or value and leaves the orders
+-- ---- no operation and no value is born: the flags and the types keep their tables
+
+module _ (P : State) {Q : State} (S : Sound Q) (e : Edit) (no-flags : new-flags e ≡ []) (no-types : new-types e ≡ []) (n k : ℕ) where
+  none-new : (j : Kind) (l : List ℕ) → l ≡ [] → tabled (λ r. r .tag) (view P .things j) ≡ tabled (λ r. r .tag) (view P .things j) ++ number (P .tab j .next) l
+  unfolding number
+  none-new j l z = sym (ap (λ (m : List ℕ). tabled (λ r. r .tag) (view P .things j) ++ number (P .tab j .next) m) z ∙ append-nil (tabled (λ r. r .tag) (view P .things j)))
+
+  accept-same : hist k (view Q) ≡ remember e (hist n (view P))
+      → tabled (λ r. r .tag) (view Q .things op) ≡ tabled (λ r. r .tag) (view P .things op) → tabled (λ r. r .tag) (view Q .things val) ≡ tabled (λ r. r .tag) (view P .things val)
+      → ordersOf (view Q) ≡ reorder e (hist n (view P)) (hist k (view Q)) (ordersOf (view P)) → ((j : Kind) → Q .tab j .cap ≡ P .tab j .cap) → ruleState k Q ≡ accept e (ruleState n P)
+  accept-same history flags types orders caps =
+      accept-is S e n k (record { history = history; flags = flags ∙ none-new op (new-flags e) no-flags; types = types ∙ none-new val (new-types e) no-types; orders = orders; caps = caps })
+
+-- an edit that leaves the orders
 pub record Quiet (e : Edit) : Type 0 where
   pub orders : (h k : History) (o : Orders) → reorder e h k o ≡ o
   pub flags : new-flags e ≡ []
@@ -65,16 +76,8 @@ pub record Quiet (e : Edit) : Type 0 where
 pub accept-quiet : (P : State) {Q : State} → Sound Q → (e : Edit) → Quiet e → (n k : ℕ) → hist k (view Q) ≡ remember e (hist n (view P))
     → tabled (λ r. r .tag) (view Q .things op) ≡ tabled (λ r. r .tag) (view P .things op) → tabled (λ r. r .tag) (view Q .things val) ≡ tabled (λ r. r .tag) (view P .things val)
     → ordersOf (view Q) ≡ ordersOf (view P) → ((j : Kind) → Q .tab j .cap ≡ P .tab j .cap) → ruleState k Q ≡ accept e (ruleState n P)
-unfolding number
 accept-quiet P {Q} S e Z n k history flags types orders caps =
-    accept-is S e n k
-    (record {
-      history = history;
-      flags = flags ∙ sym (ap (λ (l : List ℕ). tabled (λ r. r .tag) (view P .things op) ++ number (P .tab op .next) l) (Z .flags) ∙ append-nil (tabled (λ r. r .tag) (view P .things op)));
-      types = types ∙ sym (ap (λ (l : List ℕ). tabled (λ r. r .tag) (view P .things val) ++ number (P .tab val .next) l) (Z .types) ∙ append-nil (tabled (λ r. r .tag) (view P .things val)));
-      orders = orders ∙ sym (Z .orders (hist n (view P)) (hist k (view Q)) (ordersOf (view P)));
-      caps = caps;
-    })
+    accept-same P S e (Z .flags) (Z .types) n k history flags types (orders ∙ sym (Z .orders (hist n (view P)) (hist k (view Q)) (ordersOf (view P)))) caps
 
 -- ---- the uses that have ended: those born and not live
 
@@ -90,48 +93,32 @@ lives-born {P} S k = omega (arith, below-next (P .tab k .num) (P .tab k .order) 
 abbrev pub endedOf : State → ℕ
 endedOf P = P .tab usg .next - length (P .tab usg .order)
 
--- ---- a changed record is a changed entry
+-- ---- an edit that gives birth to nothing and ends nothing, from P to Q: the tables and the tags are the same
 
-eqb-ite {ℓ} : {A : Type ℓ} (a n : ℕ) (x y : A) → cond (eqb a n) x y ≡ ite (ℕ-discrete a n) x y
-unfolding tick
-eqb-ite {A} a n x y = go (eqb a n) (ℕ-discrete a n) (bit-eqb a n)
-  where
-    go : (b : Bool) (w : Dec (a ≡ n)) → bit b ≡ tick w → cond b x y ≡ ite w x y
-    go true (yes e) h = refl
-    go true (no m) h = absurd (omega arith)
-    go false (yes e) h = absurd (omega arith)
-    go false (no m) h = refl
+pub record Kept (e : Edit) (P Q : State) : Type 0 where
+  pub tables : Q .tab ≡ P .tab
+  pub tags : Q .tag ≡ P .tag
+  pub no-births : births e ≡ zeros
+  pub no-flags : new-flags e ≡ []
+  pub no-types : new-types e ≡ []
+  pub history : (n : ℕ) → carry-out e (hist n (view P)) ≡ hist n (view Q)
+  pub orders : (n : ℕ) → reorder e (hist n (view P)) (hist n (view Q)) (ordersOf (view P)) ≡ ordersOf (view Q)
 
-module _ {A : Type 0} (p : Rec → A) (n : ℕ) (f : Rec → Rec) (keeps : (e : Rec) → f e .num ≡ e .num) where
-  pub tabled-amend : (g : A → A) → ((e : Rec) → p (f e) ≡ g (p e)) → (l : List Rec) → tabled p (amendIn n f l) ≡ change n g (tabled p l)
-  unfolding change
-  tabled-amend g h [] = refl
-  tabled-amend g h (e ∷ l) = go (ℕ-discrete (e .num) n) (tabled-amend g h l) ∙ sym (eqb-ite (e .num) n ((e .num, g (p e)) ∷ change n g (tabled p l)) ((e .num, p e) ∷ change n g (tabled p l)))
-    where
-      go : (w : Dec (e .num ≡ n)) → tabled p (amendIn n f l) ≡ change n g (tabled p l) → tabled p (ite w (f e) e ∷ amendIn n f l) ≡ ite w ((e .num, g (p e)) ∷ change n g (tabled p l)) ((e .num, p e) ∷ change n g (tabled p l))
-      go (yes q) ih = λ i. (keeps e i, h e i) ∷ ih i
-      go (no q) ih = λ i. (e .num, p e) ∷ ih i
+module _ {P Q : State} (S : Sound Q) (e : Edit) (K : Kept e P Q) where
+  tags-same : (k : Kind) → tabled (λ r. r .tag) (view Q .things k) ≡ tabled (λ r. r .tag) (view P .things k)
+  unfolding recOf
+  tags-same k =
+      tabled-view Q k (λ r. r .tag)
+      ∙ ap₂ (λ (u : Kind → Table) (v : Thing → ℕ). map (λ p. (u k .num p, v (k, p))) (u k .order)) (K .tables) (K .tags)
+      ∙ sym (tabled-view P k (λ r. r .tag))
 
-  -- or none, where the entry does not show it
-  pub tabled-same : ((e : Rec) → p (f e) ≡ p e) → (l : List Rec) → tabled p (amendIn n f l) ≡ tabled p l
-  tabled-same h [] = refl
-  tabled-same h (e ∷ l) = go (ℕ-discrete (e .num) n) (tabled-same h l)
-    where
-      go : (w : Dec (e .num ≡ n)) → tabled p (amendIn n f l) ≡ tabled p l → tabled p (ite w (f e) e ∷ amendIn n f l) ≡ tabled p (e ∷ l)
-      go (yes q) ih = λ i. (keeps e i, h e i) ∷ ih i
-      go (no q) ih = λ i. (e .num, p e) ∷ ih i
+  remembered : hist (endedOf P) (view Q) ≡ remember e (hist (endedOf P) (view P))
+  unfolding remember bear hist view
+  remembered =
+      sym (ap₂ bear (ap (plus (hist (endedOf P) (view P) .born)) (K .no-births) ∙ plus-zeros (hist (endedOf P) (view P) .born) ∙ sym (ap (λ (t : Kind → Table). record { operations = t op .next; blocks = t blk .next; regions = t reg .next; values = t val .next; uses = t usg .next }) (K .tables))) (K .history (endedOf P)))
 
--- two changes that agree on the entry with the number
-pub change-agree : {A : Type 0} (nm : ℕ → ℕ) (g : ℕ → A) (f f′ : A → A) (o : ℕ) (l : List ℕ) → ((q : ℕ) → In ℕ-discrete q l → nm q ≡ nm o → q ≡ o) → f (g o) ≡ f′ (g o) → change (nm o) f (map (λ q. (nm q, g q)) l) ≡ change (nm o) f′ (map (λ q. (nm q, g q)) l)
-unfolding change
-change-agree nm g f f′ o [] inj at = refl
-change-agree {A} nm g f f′ o (q ∷ l) inj at = go (change-agree nm g f f′ o l (λ r i. inj r (in-tail ℕ-discrete r q l i)) at) (eqb (nm q) (nm o)) (bit-eqb (nm q) (nm o))
-  where
-    rest : (A → A) → List (ℕ × A)
-    rest k = change (nm o) k (map (λ q. (nm q, g q)) l)
-
-    go : rest f ≡ rest f′ → (b : Bool) → bit b ≡ tick (ℕ-discrete (nm q) (nm o)) → cond b ((nm q, f (g q)) ∷ rest f) ((nm q, g q) ∷ rest f) ≡ cond b ((nm q, f′ (g q)) ∷ rest f′) ((nm q, g q) ∷ rest f′)
-    go ih true b =
-        let p : q ≡ o = inj q (in-head ℕ-discrete q l) (tick-pos (ℕ-discrete (nm q) (nm o)) (omega (arith, b))) in
-        ap₂ {C = List (ℕ × A)} (λ (a : A) (r : List (ℕ × A)). (nm q, a) ∷ r) (ap (λ (k : ℕ). f (g k)) p ∙ at ∙ ap (λ (k : ℕ). f′ (g k)) (sym p)) ih
-    go ih false b = ap {B = List (ℕ × A)} (λ r. (nm q, g q) ∷ r) ih
+  pub accept-kept : meaning Q ≡ accept e (meaning P)
+  unfolding meaning
+  accept-kept =
+      ap (λ (t : Kind → Table). ruleState (t usg .next - length (t usg .order)) Q) (K .tables)
+      ∙ accept-same P S e (K .no-flags) (K .no-types) (endedOf P) (endedOf P) remembered (tags-same op) (tags-same val) (sym (K .orders (endedOf P))) (λ j. ap (λ (t : Kind → Table). t j .cap) (K .tables))

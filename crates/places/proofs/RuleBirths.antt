@@ -4,32 +4,30 @@ use mathlib.Core.Path.{_≡_, refl, sym, ap, ap₂, _∙_}
 use mathlib.Core.Logic.{_≢_}
 use mathlib.Core.Bool.{Bool, true, false, cond}
 use mathlib.Core.List.{List, [], _∷_, _++_, map, append-nil, append-assoc}
-use mathlib.Core.Option.{Option, none, some}
+use mathlib.Core.Option.{none, some}
 use native.Mathlib.Decide.{ℕ-discrete}
 use native.Mathlib.Omega.{arith}
-use Prim.Native.Nat.{ℕ, zero, suc, _+_, _-_, _<_, _≤_}
+use Prim.Native.Nat.{ℕ, zero, suc, _+_, _≤_}
 use lib.Dec.{eqb}
 use lib.ListN.{length, length-append, length-map, length-replicate, replicate}
 use borrow.Author.Tests.{eq-eqb, ne-eqb}
 use Rattle.seqs.specs.Seqs.{upd, insertAt, In}
-use Rattle.places.specs.Store.{Kind, op, blk, reg, val, usg, Role, results, arguments, operands, successors, regions, ops, blocks, regs, Thing, State, alive, Live, Linked, Sound}
-use Rattle.places.specs.View.{Rec, Names, num, recOf, view, amend, changeList, setHome, bare, nBirth, nEnter, nHold}
+use Rattle.places.specs.Store.{Kind, op, blk, reg, val, usg, results, arguments, operands, successors, regions, ops, blocks, regs, State, alive, Linked}
+use Rattle.places.specs.View.{Names, num, recOf, view, amend, changeList, setHome, bare, nBirth, nEnter, nHold}
 use Rattle.places.specs.Edits.{nBirthUse}
-use Rattle.places.specs.Plain.{tabled}
-use Rattle.places.specs.Hist.{opOf, blockOf, useOf, bornOf, hist, ordersOf}
+use Rattle.places.specs.Hist.{tabled, opOf, blockOf, useOf, bornOf, hist, ordersOf}
 use Rattle.places.specs.Roles.{slotRole, defRole, defKind}
 use Rattle.places.specs.Accepts.{Accepts}
-use Rattle.edit.specs.Record.{Slot, operand, successor, Member, operation, block, Definition, of-value, of-block, Edit, new-operation, new-block}
+use Rattle.edit.specs.Record.{Slot, operand, successor, operation, block, of-value, of-block, new-operation, new-block}
 use Rattle.rules.specs.Table.{Table, find, number, change, up}
-use Rattle.rules.specs.History.{Five, plus, Operation, Block, History, births, bear, carry-out, remember, change-slot, change-results, change-regions, change-arguments, change-values, with-operations, with-blocks, add-use, defined}
+use Rattle.rules.specs.History.{plus, Operation, Block, History, births, bear, carry-out, remember, change-slot, change-results, change-regions, change-arguments, change-values, with-operations, with-blocks, add-use, defined}
 use Rattle.rules.specs.Orders.{Orders, containers, new-lists, order, reorder}
 use Rattle.rules.specs.State.{new-flags, new-types}
 use Rattle.seqs.proofs.Base.{map-append, in-head, in-tail}
 use Rattle.places.proofs.Bits.{tabled-view}
-use Rattle.places.proofs.Plains.{next-new}
-use Rattle.places.proofs.RuleNames.{find-dead, length-view}
+use Rattle.places.proofs.Entries.{next-new, tabled-amend, tabled-same}
+use Rattle.places.proofs.RuleNames.{find-dead}
 use Rattle.places.proofs.RuleRefusals.{oneOf}
-use Rattle.places.proofs.RuleAccept.{tabled-amend, tabled-same}
 use Rattle.places.proofs.RuleUses.{born-flags, born-rest, born-history}
 use Rattle.places.proofs.RuleValues.{value-history, value-flags, value-types, value-orders}
 

@@ -1,30 +1,27 @@
 -- The rules' climb by numbers says yes exactly for what the walk by places reaches. Assumes nothing.
-use mathlib.Core.Path.{_≡_, refl, sym, ap, ap₂, _∙_, subst, fun-ext}
-use mathlib.Core.Logic.{_≢_, by-cases, _⊎_, inl, inr, ⊎-elim}
-use mathlib.Core.Bool.{Bool, true, false, not, cond, _&&_, _||_}
-use mathlib.Core.List.{List, [], _∷_, _++_, map, map-map}
+use mathlib.Core.Path.{_≡_, refl, sym, ap, _∙_, subst}
+use mathlib.Core.Logic.{_≢_, by-cases}
+use mathlib.Core.Bool.{Bool}
+use mathlib.Core.List.{[], _∷_, map}
 use mathlib.Core.Option.{Option, none, some}
 use native.Mathlib.Decide.{ℕ-discrete}
 use native.Mathlib.Omega.{arith}
-use Prim.Native.Nat.{ℕ, zero, suc, _+_, _<_, _≤_}
+use Prim.Native.Nat.{ℕ, zero, suc, _+_, _≤_}
 use lib.Dec.{eqb}
 use lib.ListN.{length, length-map}
-use Rattle.seqs.specs.Seqs.{tick, count, In, sum}
-use Rattle.places.specs.Store.{Kind, Kind-dec, op, blk, reg, val, usg, Role, regions, Fam, regs, opsIn, blocksIn, nodeOf, holderOf, Thing, Thing-dec, Con, Con-dec, State, alive, Live, Link, Linked, Sound, owns, outer, up, Ends}
-use Rattle.places.specs.View.{Rec, num, homeBy, recOf, view}
-use Rattle.places.specs.Plain.{tabled, number}
-use Rattle.places.specs.Hist.{opOf, blockOf, hist, theThing}
+use Rattle.seqs.specs.Seqs.{tick, count}
+use Rattle.places.specs.Store.{Kind, Kind-dec, op, blk, reg, val, usg, regions, regs, opsIn, blocksIn, holderOf, Thing, Thing-dec, Con, Con-dec, State, alive, Live, Link, Linked, Sound, owns, outer, up, Ends}
+use Rattle.places.specs.View.{num, homeBy, recOf, view}
+use Rattle.places.specs.Hist.{number, opOf, blockOf, hist, theThing}
 use Rattle.places.specs.Walk.{over, pick, sgn, walk}
-use Rattle.rules.specs.Table.{Table, some-and, find, find-key, member}
+use Rattle.rules.specs.Table.{some-and, find-key, member}
 use Rattle.places.specs.Alias.{RThing}
-use Rattle.edit.specs.Record.{the-operation, the-block, the-region}
-use Rattle.rules.specs.History.{Operation, Block, History, block-of, region-of, parent, block-at, region-at, is-operation, is-block, is-region, region-climb, block-climb, climb, operation-in, block-in, region-in}
-use Rattle.seqs.proofs.Base.{tick-yes, tick-no, tick-pos, in-head, in-tail}
-use Rattle.places.proofs.Steps.{some-inj, some-none, thing-eq, up-live, listed}
+use Rattle.rules.specs.History.{Operation, History, block-of, region-of, parent, block-at, region-at, is-operation, is-block, is-region, region-climb, block-climb, climb, operation-in, block-in, region-in}
+use Rattle.seqs.proofs.Base.{tick-yes, tick-no}
+use Rattle.places.proofs.Steps.{some-none, thing-eq, up-live, listed}
 use Rattle.places.proofs.Sees.{num-inj}
 use Rattle.places.proofs.Climb.{path, opsOf, climb-bound}
-use Rattle.places.proofs.Fuel.{around, up-around, op≢, blk≢, reg≢, ops-op, ops-more}
-use Rattle.places.proofs.Cut.{zero-or}
+use Rattle.places.proofs.Fuel.{around, up-around, ops-op, ops-more}
 use Rattle.places.proofs.Nest.{kindCode, isNest, famRole, hits, hits-path, walk-climb, role-is}
 use Rattle.places.proofs.Bits.{bit, or-sum, bit-eqb, sgn-tick, bit-member, key-tabled, tabled-view, find-view, count-nums}
 

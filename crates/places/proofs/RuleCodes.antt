@@ -1,31 +1,29 @@
 -- The refusals and answers of the edits on uses, by places. Assumes nothing.
-use mathlib.Core.Path.{_≡_, refl, sym, ap, ap₂, _∙_, subst}
-use mathlib.Core.Logic.{_≢_, ite}
-use mathlib.Core.Bool.{Bool, true, false, not, cond}
-use mathlib.Core.List.{List, [], _∷_, _++_, map}
-use mathlib.Core.Option.{Option, none, some}
-use native.Mathlib.Decide.{ℕ-discrete, decLt}
-use native.Mathlib.Omega.{arith}
-use Prim.Native.Nat.{ℕ, zero, suc, _+_, _-_, _<_, _≤_}
+use mathlib.Core.Path.{_≡_, refl, sym, ap, ap₂, _∙_}
+use mathlib.Core.Logic.{ite}
+use mathlib.Core.Bool.{false}
+use mathlib.Core.List.{List, [], _∷_, map}
+use mathlib.Core.Option.{Option, some}
+use native.Mathlib.Decide.{decLt}
+use Prim.Native.Nat.{ℕ, suc, _-_}
 use lib.Dec.{eqb, leb, ltb}
 use lib.ListN.{length, getD}
 use Rattle.seqs.specs.Seqs.{tick}
-use Rattle.places.specs.Store.{Kind, op, blk, reg, val, usg, Role, operands, successors, valueUses, blockUses, results, arguments, regions, ops, blocks, useSets, holderOf, Thing, Con, Con-dec, State, Live, Link, UseHeld, Sound}
+use Rattle.places.specs.Store.{op, usg, Role, operands, successors, valueUses, blockUses, results, arguments, regions, ops, blocks, useSets, Con, Con-dec, State, Live, Link, UseHeld, Sound}
 use Rattle.places.specs.View.{num, view}
-use Rattle.places.specs.Plain.{defBy}
 use Rattle.places.specs.Roles.{Unnamed, missingCode, slotRole, defKind, defRole}
-use Rattle.places.specs.Hist.{hist, ruleState, meaning}
-use Rattle.edit.specs.Record.{Slot, operand, successor, Definition, Edit, push-use, insert-use, replace-use, remove-use, pop-use, move-use}
-use Rattle.edit.specs.Answer.{Reply, clean, found}
+use Rattle.places.specs.Hist.{defBy, hist, ruleState, meaning}
+use Rattle.edit.specs.Record.{Slot, operand, successor, Definition, Edit, push-use, insert-use, replace-use, remove-use, pop-use}
+use Rattle.edit.specs.Answer.{found}
 use Rattle.rules.specs.Table.{find, some-and}
-use Rattle.rules.specs.History.{History, births, zeros, defined, same-definition, slot-of}
-use Rattle.rules.specs.Refusal.{Name, operation-named, definition-named, named, check, missing, places, no-room, slot-length, from-state, refusal-of}
+use Rattle.rules.specs.History.{History, births, defined, same-definition}
+use Rattle.rules.specs.Refusal.{Name, operation-named, definition-named, named, check, places, slot-length, from-state, refusal-of}
 use Rattle.rules.specs.Step.{definition-number, taken, answer}
 use Rattle.places.proofs.Steps.{some-inj}
-use Rattle.places.proofs.Bits.{bit, bit-true, bit-false}
+use Rattle.places.proofs.Bits.{bit}
 use Rattle.places.proofs.RuleOutside.{IsDef, fit-def, nameOf, same-def}
 use Rattle.places.proofs.RuleNames.{slot-list, slot-long, use-is, use-dead}
-use Rattle.places.proofs.RuleRefusals.{code-first, code-second, code-one, code-two, operation-there, operation-missing, definition-there, definition-missing, oneOf, number-code, room-code}
+use Rattle.places.proofs.RuleRefusals.{code-first, code-second, code-one, code-two, operation-there, operation-missing, definition-there, definition-missing, number-code, room-code}
 use Rattle.places.proofs.RuleAccept.{endedOf}
 use Rattle.places.proofs.RuleUses.{def-is, def-holder}
 

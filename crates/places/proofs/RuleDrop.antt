@@ -1,31 +1,29 @@
 -- Dropping by places is the rules' dropping by numbers. Assumes nothing.
-use mathlib.Core.Path.{_≡_, refl, sym, ap, ap₂, _∙_, subst, fun-ext}
-use mathlib.Core.Logic.{_≢_, by-cases, _⊎_, inl, inr, ⊎-elim}
-use mathlib.Core.Bool.{Bool, true, false, not, cond, _&&_, _||_}
-use mathlib.Core.List.{List, [], _∷_, _++_, map, map-map}
-use mathlib.Core.Option.{Option, none, some}
+use mathlib.Core.Path.{_≡_, refl, sym, ap, _∙_, subst, fun-ext}
+use mathlib.Core.Logic.{_≢_, ⊎-elim}
+use mathlib.Core.Bool.{Bool, true, false, not, cond}
+use mathlib.Core.List.{List, [], map}
+use mathlib.Core.Option.{Option, some}
 use native.Mathlib.Decide.{ℕ-discrete}
 use native.Mathlib.Omega.{arith}
-use Prim.Native.Nat.{ℕ, zero, suc, _+_, _<_, _≤_}
+use Prim.Native.Nat.{ℕ, _+_, _<_, _≤_}
 use lib.ListN.{length}
 use Rattle.seqs.specs.Seqs.{tick, count, In, sum}
-use Rattle.places.specs.Store.{Kind, op, blk, reg, val, usg, Role, operands, successors, results, arguments, regions, ops, blocks, Fam, slots, fam, nodeOf, holderOf, Thing, Thing-dec, Con, State, alive, Live, Link, Linked, UseHeld, Fit, Sound, outer}
-use Rattle.places.specs.View.{Rec, Names, num, recOf, view}
-use Rattle.edit.specs.Record.{Definition}
-use Rattle.places.specs.Plain.{tabled}
-use Rattle.places.specs.Hist.{bornOf, opOf, blockOf, useOf, hist, theThing}
-use Rattle.places.specs.Walk.{over, pick, sgn, sift, cutBy, among, walk, usesAt, dropList, dropped, trim}
-use Rattle.rules.specs.Table.{Table, change-all, keep-keys, member, gather}
+use Rattle.places.specs.Store.{Kind, op, blk, reg, val, usg, Role, operands, successors, results, arguments, regions, ops, blocks, slots, fam, nodeOf, holderOf, Thing, Thing-dec, Con, State, alive, Live, Link, Linked, UseHeld, Sound, outer}
+use Rattle.places.specs.View.{Rec, num, recOf, view}
+use Rattle.places.specs.Hist.{tabled, bornOf, opOf, blockOf, useOf, hist, theThing}
+use Rattle.places.specs.Walk.{over, sgn, sift, cutBy, among, walk, usesAt, dropList, dropped, trim}
+use Rattle.rules.specs.Table.{change-all, keep-keys, member, gather}
 use Rattle.places.specs.Alias.{RThing}
-use Rattle.rules.specs.History.{change-slot, Operation, Block, History, all-uses-in, operation-in, uses-inside, emptied, with-operations, end-uses, drop-inside}
-use Rattle.seqs.proofs.Base.{tick-yes, tick-no, tick-pos, in-head, in-tail, count-append, map-on, map-append, rises-once}
-use Rattle.places.proofs.Steps.{some-inj, some-none, thing-eq, listed}
+use Rattle.rules.specs.History.{change-slot, History, all-uses-in, operation-in, uses-inside, emptied, with-operations, end-uses, drop-inside}
+use Rattle.seqs.proofs.Base.{tick-yes, tick-no, count-append, map-on, map-append, rises-once}
+use Rattle.places.proofs.Steps.{thing-eq, listed}
 use Rattle.seqs.proofs.Sums.{sum-on, sum-map, length-count, count-map}
 use Rattle.places.proofs.Cut.{pick-0, pick-1, zero-or, sift-all, sift-none, sift-in, Closed}
 use Rattle.places.proofs.SeeCut.{map-sift, rec-cut, num-cut}
 use Rattle.places.proofs.Nest.{kindCode, upTo, walk-once}
-use Rattle.places.proofs.DropAll.{UseList, uses-closed, uses-at, drop-count, drop-uses, slot-roles, fam-code}
-use Rattle.places.proofs.Bits.{bit, bit-true, bit-false, sgn-bit, sgn-one, bit-member, tabled-view, count-nums}
+use Rattle.places.proofs.DropAll.{uses-closed, uses-at, drop-count, drop-uses, slot-roles, fam-code}
+use Rattle.places.proofs.Bits.{bit, sgn-bit, sgn-one, bit-member, tabled-view, count-nums}
 use Rattle.places.proofs.Tables.{keep-tabled, change-tabled, count-tabled, sum-single, sum-some, in-mapped}
 use Rattle.places.proofs.RuleClimb.{operation-in-walk}
 

@@ -1,33 +1,33 @@
 -- A use is taken out of an operation's list and ends, or another takes its place: by places as the rules say it. Assumes nothing.
 use mathlib.Core.Path.{_≡_, refl, sym, ap, ap₂, _∙_, subst}
-use mathlib.Core.Logic.{_≢_, ite, if-pos, if-neg, by-cases}
+use mathlib.Core.Logic.{ite}
 use mathlib.Core.Bool.{Bool, true, false, not, cond, _||_}
-use mathlib.Core.List.{List, [], _∷_, _++_, map}
-use mathlib.Core.Option.{Option, none, some}
+use mathlib.Core.List.{List, [], _∷_, map}
+use mathlib.Core.Option.{some}
 use native.Mathlib.Decide.{ℕ-discrete}
 use native.Mathlib.Omega.{arith}
-use Prim.Native.Nat.{ℕ, zero, suc, _+_, _-_, _<_, _≤_}
+use Prim.Native.Nat.{ℕ, zero, suc, _+_, _-_, _<_}
 use lib.Dec.{eqb}
-use lib.ListN.{length, length-map, getD, set}
-use Rattle.seqs.specs.Seqs.{upd, insertAt, tick, count, In, without, withoutBy, removeAt}
-use Rattle.places.specs.Store.{Kind, Kind-dec, op, blk, reg, val, usg, Role, Fam, slots, useSets, fam, nodeOf, holderOf, Thing, Thing-dec, Con, Table, State, alive, Live, Link, Fit, UseHeld, Sound, end, gone, enter, leave, relink, setOwn, setList}
-use Rattle.places.specs.View.{Rec, Names, num, named, namedC, recOf, view, amendIn, amend, changeList, nEnd}
+use lib.ListN.{length, length-map, getD}
+use Rattle.seqs.specs.Seqs.{upd, tick, count, In, without, withoutBy, removeAt}
+use Rattle.places.specs.Store.{op, blk, val, usg, slots, fam, nodeOf, Thing, Thing-dec, Con, State, alive, Live, Link, UseHeld, Sound, end, leave, relink, setOwn, setList}
+use Rattle.places.specs.View.{Rec, Names, num, namedC, view, amend, changeList, nEnd}
 use Rattle.places.specs.Edits.{endUse, nEndUse}
-use Rattle.places.specs.Plain.{tabled}
-use Rattle.places.specs.Hist.{opOf, blockOf, useOf, bornOf, hist, ordersOf, ruleState, meaning}
+use Rattle.places.specs.Hist.{tabled, opOf, blockOf, useOf, bornOf, hist, ordersOf, meaning}
 use Rattle.edit.specs.Record.{Slot, operand, successor, Edit, remove-use, pop-use}
 use Rattle.rules.specs.Table.{find, change, keep-keys, member, remove-at}
-use Rattle.rules.specs.History.{Five, zeros, plus, History, births, bear, carry-out, remember, slot-of, change-slot, with-operations, end-uses, take-use}
+use Rattle.rules.specs.History.{zeros, plus, births, bear, carry-out, remember, slot-of, change-slot, with-operations, end-uses, take-use}
 use Rattle.rules.specs.Orders.{order, reorder}
 use Rattle.rules.specs.State.{new-flags, new-types, accept}
-use Rattle.seqs.proofs.Base.{tick-yes, tick-no, in-head, length-falls, rises-once}
-use Rattle.places.proofs.Steps.{some-inj, once, listed, cap-end}
+use Rattle.seqs.proofs.Base.{length-falls, rises-once}
+use Rattle.places.proofs.Steps.{some-inj, once, listed}
 use Rattle.places.proofs.Extra.{in-at, removeAt-without}
 use Rattle.places.proofs.EndUse.{endUse-sound, endUse-view, endUse-cap}
 use Rattle.places.proofs.Bits.{bit, bit-eqb, count-nums}
 use Rattle.places.specs.Roles.{slotRole}
 use Rattle.places.proofs.RuleNames.{slot-list}
-use Rattle.places.proofs.RuleAccept.{Quiet, accept-quiet, lives-born, endedOf, tabled-amend, tabled-same}
+use Rattle.places.proofs.Entries.{tabled-amend, tabled-same, plus-zeros}
+use Rattle.places.proofs.RuleAccept.{Quiet, accept-quiet, lives-born, endedOf}
 use Rattle.places.proofs.RuleUses.{slot-entry, slot-change}
 
 -- ---- list laws
@@ -95,11 +95,8 @@ module _ (N : Names) (sl : Slot) (n u : ℕ) where
   ended-types = refl
 
   none-born : bornOf E ≡ plus (bornOf N) zeros
-  unfolding nEnd amend upd plus zeros
-  none-born = λ k. record { operations = zero-more (N .next op) k; blocks = zero-more (N .next blk) k; regions = zero-more (N .next reg) k; values = zero-more (N .next val) k; uses = zero-more (N .next usg) k }
-    where
-      zero-more : (a : ℕ) → a ≡ a + 0
-      zero-more a = omega arith
+  unfolding nEnd amend
+  none-born = sym (plus-zeros (bornOf N))
 
   ended-history : (e i : ℕ) → getD (slot-of sl (find (hist e N .operations) n)) i 0 ≡ u → change n (change-slot sl (without ℕ-discrete u)) (tabled opOf (N .things op)) ≡ change n (change-slot sl (remove-at i)) (tabled opOf (N .things op))
       → hist (e + 1) E ≡ bear (plus (hist e N .born) zeros) (take-use sl n i (hist e N))

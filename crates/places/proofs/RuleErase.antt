@@ -1,33 +1,30 @@
 -- Erasing by places is the rules' erasing by numbers. Assumes nothing.
-use mathlib.Core.Path.{_≡_, refl, sym, ap, ap₂, _∙_, subst, fun-ext}
-use mathlib.Core.Logic.{_≢_, by-cases, _⊎_, inl, inr, ⊎-elim}
-use mathlib.Core.Bool.{Bool, true, false, not, cond, _&&_, _||_}
-use mathlib.Core.List.{List, [], _∷_, _++_, map, map-map}
-use mathlib.Core.Option.{Option, none, some}
+use mathlib.Core.Path.{_≡_, refl, sym, ap, _∙_}
+use mathlib.Core.Logic.{_≢_}
+use mathlib.Core.Bool.{Bool, true, false, not, cond}
+use mathlib.Core.List.{map}
+use mathlib.Core.Option.{Option, some}
 use native.Mathlib.Decide.{ℕ-discrete}
 use native.Mathlib.Omega.{arith}
-use Prim.Native.Nat.{ℕ, zero, suc, _+_, _<_, _≤_}
+use Prim.Native.Nat.{ℕ, _+_, _≤_}
 use lib.Dec.{eqb}
 use lib.ListN.{length}
-use Rattle.seqs.specs.Seqs.{tick, count, In, sum}
-use Rattle.places.specs.Store.{Kind, op, blk, reg, val, usg, Role, operands, successors, valueUses, blockUses, results, arguments, regions, ops, blocks, Fam, slots, useSets, vals, regs, opsIn, blocksIn, fam, nodeOf, holderOf, Thing, Thing-dec, Con, State, alive, Live, Link, Linked, Sound, outer, upBy, up, nest}
-use Rattle.places.specs.View.{Rec, num, recOf, view}
-use Rattle.places.specs.Plain.{tabled}
-use Rattle.places.specs.Hist.{bornOf, opOf, blockOf, useOf, hist, theThing}
-use Rattle.places.specs.Walk.{over, pick, sgn, sift, cutBy, among, cutAll, walk, dropList, innards, everything, erased, trim, straysIn}
-use Rattle.rules.specs.Table.{Table, keep-keys, member}
+use Rattle.seqs.specs.Seqs.{count, sum}
+use Rattle.places.specs.Store.{Kind, op, blk, reg, val, usg, Role, operands, successors, results, arguments, regions, blocks, Fam, slots, vals, regs, fam, nodeOf, Thing, Thing-dec, Con, State, alive, Live, Link, Linked, Sound, outer, upBy, up, nest}
+use Rattle.places.specs.View.{num, recOf, view}
+use Rattle.places.specs.Hist.{tabled, bornOf, opOf, blockOf, useOf, hist, theThing}
+use Rattle.places.specs.Walk.{over, sgn, sift, cutBy, among, walk, dropList, everything, erased, trim}
+use Rattle.rules.specs.Table.{keep-keys, member}
 use Rattle.places.specs.Alias.{RThing}
-use Rattle.rules.specs.History.{Operation, Block, History, operation-in, block-in, uses-inside, with-operations, end-uses, drop-inside, end-inside}
-use Rattle.seqs.proofs.Base.{tick-yes, tick-no, tick-pos, in-head, in-tail, count-append, rises-once}
-use Rattle.places.proofs.Steps.{thing-eq, listed}
+use Rattle.rules.specs.History.{Operation, History, operation-in, block-in, uses-inside, with-operations, end-uses, drop-inside, end-inside}
+use Rattle.seqs.proofs.Base.{tick-yes, tick-no, rises-once}
+use Rattle.places.proofs.Steps.{listed}
 use Rattle.places.proofs.Sees.{num-inj}
-use Rattle.places.proofs.Climb.{opsOf, count-ops}
-use Rattle.seqs.proofs.Sums.{sum-on, length-count}
-use Rattle.places.proofs.Cut.{pick-0, pick-1, zero-or, sift-all, sift-on, Closed}
+use Rattle.places.proofs.Cut.{sift-all, sift-on, Closed}
 use Rattle.places.proofs.SeeCut.{map-sift}
-use Rattle.places.proofs.Nest.{kindCode, walk-once, walk-live, walk-up}
+use Rattle.places.proofs.Nest.{kindCode, walk-up}
 use Rattle.places.proofs.DropAll.{drop-count}
-use Rattle.places.proofs.Bits.{bit, bit-eqb, sgn-one, tabled-view}
+use Rattle.places.proofs.Bits.{bit, bit-eqb, tabled-view}
 use Rattle.places.proofs.Tables.{keep-tabled, sum-single-on, cond-true}
 use Rattle.places.proofs.RuleClimb.{operation-in-walk, block-in-walk}
 use Rattle.places.proofs.RuleDrop.{tabled-cut, defs-left, length-inside}

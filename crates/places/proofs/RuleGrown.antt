@@ -1,32 +1,30 @@
 -- What the tables of a store say of it, while a new operation or block is made: how many things live, the next numbers, how long the lists
 -- of the new thing are, and that no number is lost. Assumes nothing.
 use mathlib.Core.Path.{_≡_, refl, sym, ap, ap₂, _∙_}
-use mathlib.Core.Logic.{_≢_}
 use mathlib.Core.Bool.{Bool, true, false, cond}
 use mathlib.Core.List.{List, [], _∷_, _++_, map}
 use mathlib.Core.Option.{Option, none, some}
 use native.Mathlib.Omega.{arith}
-use Prim.Native.Nat.{ℕ, zero, suc, _+_, _-_, _<_, _≤_}
+use Prim.Native.Nat.{ℕ, _+_}
 use lib.Dec.{eqb}
 use lib.ListN.{length, length-append, length-map, length-replicate, replicate}
-use Rattle.places.specs.Store.{Kind, op, blk, reg, val, usg, results, arguments, operands, successors, regions, blocks, Thing, Con, State, alive, Live, Linked, Sound, birth, enter, relink, setOwn, setList}
-use Rattle.places.specs.View.{Rec, num, recOf, view}
-use Rattle.places.specs.Edits.{birthUse}
-use Rattle.places.specs.Plain.{tabled}
-use Rattle.places.specs.Hist.{opOf, blockOf, useOf, hist, ordersOf}
-use Rattle.places.specs.Roles.{Unnamed, slotRole}
+use Rattle.places.specs.Store.{op, blk, reg, val, usg, results, arguments, operands, successors, regions, blocks, Thing, Con, State, Live, Linked, Sound, birth, enter, relink, setOwn, setList}
+use Rattle.places.specs.View.{num, recOf, view}
+use Rattle.places.specs.Hist.{tabled, opOf, blockOf, useOf, hist, ordersOf}
+use Rattle.places.specs.Roles.{Unnamed}
 use Rattle.places.specs.Accepts.{Accepts}
-use Rattle.edit.specs.Record.{Slot, operand, successor, operation, block, of-value, of-block, new-operation, new-block}
+use Rattle.edit.specs.Record.{operand, successor, operation, block, of-value, of-block, new-operation, new-block}
 use Rattle.rules.specs.Table.{Table, find, number, up}
 use Rattle.rules.specs.History.{Operation, Block, History, births, plus, bear, carry-out, remember, with-blocks, slot-of, uses-in, results-of, arguments-of, regions-of, values-at}
 use Rattle.rules.specs.Orders.{Orders, containers, new-lists, order, reorder}
 use Rattle.rules.specs.State.{new-types}
 use Rattle.rules.specs.Refusal.{slot-length, values-length}
-use Rattle.places.proofs.Steps.{Fresh, some-none, live-birth, alive-enter}
+use Rattle.places.specs.May.{Fresh}
+use Rattle.places.proofs.Steps.{some-none, live-birth, alive-enter}
 use Rattle.places.proofs.Sees.{num-old, not-new}
 use Rattle.places.proofs.RuleNames.{find-live, find-dead, length-view, values-long, slot-long}
 use Rattle.places.proofs.RuleAccept.{endedOf}
-use Rattle.places.proofs.RuleBirths.{Unborn, unborn, number-long, up-length, made-operation, made-block}
+use Rattle.places.proofs.RuleBirths.{unborn, number-long, up-length, made-operation, made-block}
 
 -- ---- what lives keeps its number while others are born
 

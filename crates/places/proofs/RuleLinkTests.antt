@@ -1,27 +1,24 @@
 -- The refusals of 21 to 30, by places: 15 and 16 by where a member stands, 17 by the walk; and what a walk that does not reach a thing says of the climb. Assumes nothing.
 use mathlib.Core.Path.{_≡_, refl, sym, ap, ap₂, _∙_, subst}
-use mathlib.Core.Logic.{_≢_, by-cases, ⊎-elim}
-use mathlib.Core.Bool.{Bool, true, false, not, cond, _||_}
-use mathlib.Core.List.{List, [], _∷_, _++_, map}
+use mathlib.Core.Bool.{Bool, true, false}
 use mathlib.Core.Option.{Option, none, some}
 use native.Mathlib.Omega.{arith}
-use Prim.Native.Nat.{ℕ, zero, suc, _+_, _-_, _<_, _≤_}
+use Prim.Native.Nat.{ℕ, zero, suc, _-_}
 use lib.ListN.{length}
-use Rattle.seqs.specs.Seqs.{tick, count, In}
-use Rattle.places.specs.Store.{Kind, op, blk, reg, usg, Role, Fam, opsIn, blocksIn, fam, nodeOf, holderOf, Thing, Thing-dec, Con, State, Live, Link, Linked, Sound, outer, up, Ends, Clear}
+use Rattle.seqs.specs.Seqs.{count}
+use Rattle.places.specs.Store.{Kind, op, blk, usg, opsIn, blocksIn, fam, holderOf, Thing, Thing-dec, Con, State, Live, Link, Linked, Sound, outer, up, Ends, Clear}
 use Rattle.places.specs.View.{num, view}
-use Rattle.places.specs.Hist.{hist, ruleState, meaning, theThing}
+use Rattle.places.specs.Hist.{hist, ruleState, meaning}
 use Rattle.places.specs.Members.{roleOf, memberAt, containerAt, listAt, homeOf, heldCode, insideCode, markCode, enterCode, besideCode}
 use Rattle.places.specs.Walk.{sgn, walk, pick}
 use Rattle.edit.specs.Record.{Member, operation, block, link-after, link-before, link-front, link-back, unlink}
 use Rattle.rules.specs.Table.{is-some}
 use Rattle.rules.specs.History.{History, container}
 use Rattle.rules.specs.Refusal.{check, is-linked, contained-in, mark-tests, from-state}
-use Rattle.seqs.proofs.Base.{tick-yes, tick-no}
+use Rattle.seqs.proofs.Base.{tick-yes}
 use Rattle.places.proofs.Climb.{path}
 use Rattle.places.proofs.Nest.{kindCode, isNest, famRole, role-is, walk-climb}
-use Rattle.places.proofs.Cut.{pick-0, pick-1}
-use Rattle.places.proofs.Bits.{bit, bit-true, bit-false}
+use Rattle.places.proofs.Bits.{bit}
 use Rattle.places.proofs.RuleClimb.{numOpt, block-in-walk, region-in-walk}
 use Rattle.places.proofs.RuleLinks.{container-num}
 

@@ -1,21 +1,20 @@
 -- An operation or a block is put into a list, or taken out of it: by places that is what the rules' edits 21 to 30 say. Assumes nothing.
-use mathlib.Core.Path.{_≡_, refl, sym, ap, ap₂, _∙_, subst}
-use mathlib.Core.Logic.{_≢_, _↔_, ite, if-pos, if-neg, by-cases, ⊎-elim}
+use mathlib.Core.Path.{_≡_, refl, sym, ap, _∙_, subst}
+use mathlib.Core.Logic.{_≢_, _↔_, ite, if-neg}
 use mathlib.Core.HLevel.{Discrete}
 use mathlib.Core.Bool.{Bool, true, false, not, cond}
 use mathlib.Core.List.{List, [], _∷_, _++_, map}
 use mathlib.Core.Option.{Option, none, some}
 use native.Mathlib.Decide.{ℕ-discrete}
 use native.Mathlib.Omega.{arith}
-use Prim.Native.Nat.{ℕ, zero, suc, _+_, _<_, _≤_}
+use Prim.Native.Nat.{ℕ, zero, suc, _≤_}
 use lib.Dec.{eqb}
 use lib.ListN.{length, length-map}
 use Rattle.seqs.specs.Seqs.{upd, tick, count, In, insertAt, without}
-use Rattle.places.specs.Store.{Kind, op, blk, reg, Role, ops, blocks, Fam, opsIn, blocksIn, fam, nodeOf, holderOf, Thing, Thing-dec, Con, Con-dec, State, alive, Live, Link, Linked, owns, Placed, Sound, setList, setOwn, relink, enter, leave, outer, up}
-use Rattle.places.specs.View.{Rec, Names, shown, num, named, namedC, recOf, view, amendIn, amend, changeList, setHome, nEnter, nLeave}
-use Rattle.places.specs.Plain.{tabled}
-use Rattle.places.specs.Plain as Pl
-use Rattle.places.specs.Hist.{opOf, blockOf, useOf, hist, ordersOf, meaning}
+use Rattle.places.specs.Store.{op, blk, reg, Role, ops, blocks, Fam, opsIn, blocksIn, fam, nodeOf, holderOf, Thing, Thing-dec, Con, Con-dec, State, alive, Live, Link, owns, Placed, Sound, setList, setOwn, relink, enter, leave, outer, up}
+use Rattle.places.specs.View.{Names, shown, num, recOf, view, amend, changeList, setHome, nEnter, nLeave}
+use Rattle.places.specs.Hist as H
+use Rattle.places.specs.Hist.{tabled, opOf, blockOf, hist, ordersOf, meaning}
 use Rattle.places.specs.Members.{roleOf, memberAt, containerAt, listAt, position}
 use Rattle.edit.specs.Record.{Member, operation, block, Edit, link-after, link-before, link-front, link-back, unlink}
 use Rattle.rules.specs.Table as R
@@ -23,16 +22,17 @@ use Rattle.rules.specs.Table.{Table, change, change-all, put-after, put-before,
 use Rattle.rules.specs.History.{History, zeros, births, put-in, container, with-operations, with-blocks, into-block, into-region, carry-out}
 use Rattle.rules.specs.Orders.{Orders, order, reorder, if-same}
 use Rattle.rules.specs.State.{accept, new-flags, new-types}
-use Rattle.seqs.proofs.Base.{tick-yes, tick-no, tick-pos, in-head, in-tail}
-use Rattle.places.proofs.Steps.{CanEnter, listed}
+use Rattle.seqs.proofs.Base.{tick-yes, tick-no, in-head, in-tail}
+use Rattle.places.specs.May.{CanEnter}
+use Rattle.places.proofs.Steps.{listed}
 use Rattle.places.proofs.Sees.{num-inj, listed-inj}
 use Rattle.places.proofs.Whole.{link-sound, link-view, unlink-sound, unlink-view}
-use Rattle.places.proofs.Plains.{tabled-same}
+use Rattle.places.proofs.Entries.{cond-ite, tabled-amend, tabled-same, change-on}
 use Rattle.places.proofs.Extra.{without-none}
-use Rattle.places.proofs.Bits.{bit, bit-eqb, tabled-view, count-nums}
+use Rattle.places.proofs.Bits.{tabled-view, count-nums}
 use Rattle.places.proofs.Tables.{change-tabled, change-one}
 use Rattle.places.proofs.RuleClimb.{numOpt, block-at-num, region-at-num}
-use Rattle.places.proofs.RuleKept.{Quiet, accepted}
+use Rattle.places.proofs.RuleAccept.{accept-kept}
 
 -- ---- lists of numbers
 
@@ -41,18 +41,6 @@ insert-last zero x [] h = refl
 insert-last zero x (y ∷ l) h = absurd (omega arith)
 insert-last (suc i) x [] h = refl
 insert-last {A} (suc i) x (y ∷ l) h = ap {B = List A} (λ r. y ∷ r) (insert-last i x l (omega arith))
-
--- the two ways to decide that two numbers are the same
-module _ {A : Type 0} (x n : ℕ) (a b : A) where
-  pub cond-ite : cond (eqb x n) a b ≡ ite (ℕ-discrete x n) a b
-  unfolding tick
-  cond-ite = go (eqb x n) (ℕ-discrete x n) (bit-eqb x n)
-    where
-      go : (t : Bool) (w : Dec (x ≡ n)) → bit t ≡ tick w → cond t a b ≡ ite w a b
-      go true (yes e) h = refl
-      go true (no e) h = absurd (omega arith)
-      go false (yes e) h = absurd (omega arith)
-      go false (no e) h = refl
 
 pub after-index : (m a : ℕ) (l : List ℕ) → In ℕ-discrete m l → put-after m a l ≡ insertAt (suc (position ℕ-discrete m l)) a l
 unfolding put-after
@@ -111,28 +99,6 @@ split-at {A} d x (y ∷ l) h = go (d y x) (λ n. split-at d x l (omega (arith, h
     go (yes e) ih = ([], l, ap {B = List A} (λ z. z ∷ l) e, refl)
     go (no n) ih = let r : (a : List A) × (b : List A) × (l ≡ a ++ x ∷ b) × (length a ≡ position d x l) = ih n in (y ∷ r .0, r .1, ap {B = List A} (λ t. y ∷ t) (r .2), ap suc (r .3))
 
--- ---- tables
-
--- a changed record is a changed entry of the rules' table
-pub entry-change : {A : Type 0} (p : Rec → A) (n : ℕ) (f : Rec → Rec) → ((e : Rec) → f e .num ≡ e .num) → (g : A → A) → ((e : Rec) → p (f e) ≡ g (p e)) → (l : List Rec) → tabled p (amendIn n f l) ≡ change n g (tabled p l)
-unfolding change
-entry-change p n f keeps g h [] = refl
-entry-change {A} p n f keeps g h (e ∷ l) = one (entry-change p n f keeps g h l) (ℕ-discrete (e .num) n) ∙ sym (cond-ite (e .num) n ((e .num, g (p e)) ∷ change n g (tabled p l)) ((e .num, p e) ∷ change n g (tabled p l)))
-  where
-    one : tabled p (amendIn n f l) ≡ change n g (tabled p l) → (w : Dec (e .num ≡ n)) → _≡_ {A = Table A} (((ite w (f e) e) .num, p (ite w (f e) e)) ∷ tabled p (amendIn n f l)) (ite w ((e .num, g (p e)) ∷ change n g (tabled p l)) ((e .num, p e) ∷ change n g (tabled p l)))
-    one ih (yes q) = λ i. (keeps e i, h e i) ∷ ih i
-    one ih (no q) = ap {B = Table A} (λ r. (e .num, p e) ∷ r) ih
-
--- two changes of one entry are the same where they are the same there
-pub change-on : {A : Type 0} (nm : ℕ → ℕ) (v : ℕ → A) (n : ℕ) (f g : A → A) (l : List ℕ) → ((q : ℕ) → In ℕ-discrete q l → nm q ≡ n → f (v q) ≡ g (v q)) → change n f (map (λ q. (nm q, v q)) l) ≡ change n g (map (λ q. (nm q, v q)) l)
-unfolding change
-change-on nm v n f g [] h = refl
-change-on {A} nm v n f g (q ∷ l) h = go (change-on nm v n f g l (λ r i. h r (in-tail ℕ-discrete r q l i))) (eqb (nm q) n) (bit-eqb (nm q) n)
-  where
-    go : change n f (map (λ q. (nm q, v q)) l) ≡ change n g (map (λ q. (nm q, v q)) l) → (b : Bool) → bit b ≡ tick (ℕ-discrete (nm q) n) → _≡_ {A = Table A} (cond b ((nm q, f (v q)) ∷ change n f (map (λ q. (nm q, v q)) l)) ((nm q, v q) ∷ change n f (map (λ q. (nm q, v q)) l))) (cond b ((nm q, g (v q)) ∷ change n g (map (λ q. (nm q, v q)) l)) ((nm q, v q) ∷ change n g (map (λ q. (nm q, v q)) l)))
-    go ih true e = λ i. (nm q, h q (in-head ℕ-discrete q l) (tick-pos (ℕ-discrete (nm q) n) (omega arith)) i) ∷ ih i
-    go ih false e = λ i. (nm q, v q) ∷ ih i
-
 -- ---- the two sorts
 
 -- by numbers: the list of c changed by g, and the home of n set
@@ -147,15 +113,15 @@ unfoldable pub with-lists : Member → Table (List ℕ) → Orders → Orders
 with-lists operation t o = record { ops-of = t; blocks-of = o .blocks-of }
 with-lists block t o = record { ops-of = o .ops-of; blocks-of = t }
 
-pub relinked-history : (w : Member) (c : ℕ) (g : List ℕ → List ℕ) (n : ℕ) (o : Option (Role × ℕ)) (N : Names) (e : ℕ) → hist e (relinked w c g n o N) ≡ put-in w n (Pl.number o) (hist e N)
+pub relinked-history : (w : Member) (c : ℕ) (g : List ℕ → List ℕ) (n : ℕ) (o : Option (Role × ℕ)) (N : Names) (e : ℕ) → hist e (relinked w c g n o N) ≡ put-in w n (H.number o) (hist e N)
 unfolding relinked hist put-in with-operations with-blocks into-block into-region amend upd
-relinked-history operation c g n o N e = λ j. record { operations = entry-change opOf n (setHome opsIn o) (λ r. refl) (into-block (Pl.number o)) (λ r. refl) (N .things op) j; blocks = tabled-same blockOf c (changeList ops g) (λ r. refl) (λ r. refl) (N .things blk) j; uses = hist e N .uses; born = hist e N .born; ended = e }
-relinked-history block c g n o N e = λ j. record { operations = hist e N .operations; blocks = entry-change blockOf n (setHome blocksIn o) (λ r. refl) (into-region (Pl.number o)) (λ r. refl) (N .things blk) j; uses = hist e N .uses; born = hist e N .born; ended = e }
+relinked-history operation c g n o N e = λ j. record { operations = tabled-amend opOf n (setHome opsIn o) (λ r. refl) (into-block (H.number o)) (λ r. refl) (N .things op) j; blocks = tabled-same blockOf c (changeList ops g) (λ r. refl) (λ r. refl) (N .things blk) j; uses = hist e N .uses; born = hist e N .born; ended = e }
+relinked-history block c g n o N e = λ j. record { operations = hist e N .operations; blocks = tabled-amend blockOf n (setHome blocksIn o) (λ r. refl) (into-region (H.number o)) (λ r. refl) (N .things blk) j; uses = hist e N .uses; born = hist e N .born; ended = e }
 
 pub relinked-orders : (w : Member) (c : ℕ) (g : List ℕ → List ℕ) (n : ℕ) (o : Option (Role × ℕ)) (N : Names) → ordersOf (relinked w c g n o N) ≡ with-lists w (change c g (listsIn w N)) (ordersOf N)
 unfolding relinked ordersOf with-lists amend upd
-relinked-orders operation c g n o N = λ j. record { ops-of = entry-change (λ e. e .lists ops) c (changeList ops g) (λ r. refl) g (λ r. refl) (N .things blk) j; blocks-of = ordersOf N .blocks-of }
-relinked-orders block c g n o N = λ j. record { ops-of = tabled-same (λ e. e .lists ops) n (setHome blocksIn o) (λ r. refl) (λ r. refl) (N .things blk) j; blocks-of = entry-change (λ e. e .lists blocks) c (changeList blocks g) (λ r. refl) g (λ r. refl) (N .things reg) j }
+relinked-orders operation c g n o N = λ j. record { ops-of = tabled-amend (λ e. e .lists ops) c (changeList ops g) (λ r. refl) g (λ r. refl) (N .things blk) j; blocks-of = ordersOf N .blocks-of }
+relinked-orders block c g n o N = λ j. record { ops-of = tabled-same (λ e. e .lists ops) n (setHome blocksIn o) (λ r. refl) (λ r. refl) (N .things blk) j; blocks-of = tabled-amend (λ e. e .lists blocks) c (changeList blocks g) (λ r. refl) g (λ r. refl) (N .things reg) j }
 
 -- what the five edits make of the orders
 abbrev pub stepped : Member → (Table (List ℕ) → Table (List ℕ)) → Names → Orders
@@ -288,7 +254,7 @@ module _ {P : State} (S : Sound P) (w : Member) (c x : ℕ) where
         → meaning (enter C i X P) ≡ accept e (meaning P)
     unfolding enter relink setOwn setList
     entered b f t history F orders table =
-        accepted (linked-sound i E) e
+        accept-kept (linked-sound i E) e
         record {
           tables = refl;
           tags = refl;
@@ -342,7 +308,7 @@ module _ {P : State} (S : Sound P) (w : Member) (c x : ℕ) where
   unfolding births new-flags new-types carry-out leave relink setOwn setList
   unlink-accept at =
       let L : Link P X (fam (roleOf w)) C = S .linked .link X (fam (roleOf w)) C at in
-      accepted (unlinked-sound at) (unlink w nx)
+      accept-kept (unlinked-sound at) (unlink w nx)
       record {
         tables = refl;
         tags = refl;

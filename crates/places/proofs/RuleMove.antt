@@ -1,39 +1,38 @@
 -- A region moves to another operation, by places and by the rules' edit 31: the same store, and the same refusals. Assumes nothing.
-use mathlib.Core.Path.{_≡_, refl, sym, ap, ap₂, _∙_, subst}
-use mathlib.Core.Logic.{_≢_, ite, if-pos, if-neg, by-cases, ⊎-elim}
-use mathlib.Core.Bool.{Bool, true, false, not, cond}
+use mathlib.Core.Path.{_≡_, refl, sym, ap, ap₂, _∙_}
+use mathlib.Core.Logic.{_≢_, ite, if-pos, if-neg, by-cases}
+use mathlib.Core.Bool.{Bool, true, false, cond}
 use mathlib.Core.List.{List, [], _∷_, _++_, map}
 use mathlib.Core.Option.{Option, none, some}
 use native.Mathlib.Decide.{ℕ-discrete, decLt}
 use native.Mathlib.Omega.{arith}
-use Prim.Native.Nat.{ℕ, zero, suc, _+_, _-_, _<_, _≤_}
+use Prim.Native.Nat.{ℕ, zero, suc, _-_, _<_, _≤_}
 use lib.Dec.{eqb, leb}
 use borrow.Author.Tests.{lt-leb, le-leb}
 use lib.ListN.{length, length-map}
-use Rattle.seqs.specs.Seqs.{upd, tick, count, In, insertAt, lastOf, frontOf, swapOut}
-use Rattle.places.specs.Store.{Kind, op, blk, reg, usg, Role, regions, ops, blocks, Fam, regs, fam, Thing, Thing-dec, Con, State, alive, Live, Link, Linked, Sound, Clear, up, outer, setList, setOwn, relink, enter}
-use Rattle.places.specs.View.{Rec, Names, num, named, recOf, view, amendIn, amend, changeList, setHome, nEnter}
-use Rattle.places.specs.Plain.{tabled}
+use Rattle.seqs.specs.Seqs.{upd, tick, count, insertAt, lastOf, frontOf, swapOut}
+use Rattle.places.specs.Store.{op, reg, usg, Role, regions, blocks, regs, Thing, Thing-dec, Con, State, Live, Link, Sound, Clear, up, outer, setList, setOwn, relink, enter}
+use Rattle.places.specs.View.{Rec, Names, num, recOf, view, amendIn, amend, changeList, setHome, nEnter}
 use Rattle.places.specs.Walk.{pick, sgn, walk}
-use Rattle.places.specs.Hist.{opOf, blockOf, hist, ordersOf, ruleState, meaning}
+use Rattle.places.specs.Hist.{tabled, opOf, hist, ordersOf, ruleState, meaning}
 use Rattle.places.specs.Members.{moveRegion, moveCode}
-use Rattle.edit.specs.Record.{Edit, the-region, move-region}
+use Rattle.edit.specs.Record.{the-region, move-region}
 use Rattle.rules.specs.Table as R
 use Rattle.rules.specs.Table.{Table, some-and, find, change, last-of, front-of, swap, swap-out}
 use Rattle.rules.specs.History.{Operation, History, births, parent, regions-of, operation-in, change-regions, with-operations, hand-over, carry-out}
 use Rattle.rules.specs.Refusal.{check, from-state}
-use Rattle.rules.specs.Orders.{Orders, order, reorder}
+use Rattle.rules.specs.Orders.{order, reorder}
 use Rattle.rules.specs.State.{accept, new-flags, new-types}
-use Rattle.seqs.proofs.Base.{tick-yes, tick-no, tick-pos, in-head, in-tail}
+use Rattle.seqs.proofs.Base.{tick-yes, tick-no, tick-pos}
 use Rattle.places.proofs.Steps.{listed, once}
 use Rattle.places.proofs.Sees.{num-inj}
-use Rattle.places.proofs.Plains.{tabled-same}
-use Rattle.places.proofs.Bits.{bit, bit-eqb, bit-true, bit-false, tabled-view, count-nums}
+use Rattle.places.proofs.Entries.{cond-ite, tabled-amend, tabled-same, change-there}
+use Rattle.places.proofs.Bits.{bit, bit-eqb, bit-true, bit-false, count-nums}
 use Rattle.places.proofs.RuleClimb.{numOpt, parent-num, operation-in-walk}
 use Rattle.places.proofs.Nest.{kindCode}
 use Rattle.places.proofs.RuleNames.{find-live}
-use Rattle.places.proofs.RuleKept.{Quiet, accepted}
-use Rattle.places.proofs.RuleLinks.{cond-ite, insert-last, entry-change, change-on}
+use Rattle.places.proofs.RuleAccept.{accept-kept}
+use Rattle.places.proofs.RuleLinks.{insert-last}
 use Rattle.places.proofs.SwapOut.{count-front}
 use Rattle.places.proofs.MoveRegion.{moveRegion-sound, moveRegion-view}
 
@@ -98,8 +97,8 @@ module _ (N : Names) (n c c′ : ℕ) (g g′ : List ℕ → List ℕ) (a b : Re
     where
       operations : tabled opOf (amendIn c′ (changeList regions g′) (amendIn c (changeList regions g) (N .things op))) ≡ change c′ (change-regions g′) (change c (change-regions g) (tabled opOf (N .things op)))
       operations =
-          entry-change opOf c′ (changeList regions g′) (λ r. refl) (change-regions g′) (λ r. refl) (amendIn c (changeList regions g) (N .things op))
-          ∙ ap (change c′ (change-regions g′)) (entry-change opOf c (changeList regions g) (λ r. refl) (change-regions g) (λ r. refl) (N .things op))
+          tabled-amend opOf c′ (changeList regions g′) (λ r. refl) (change-regions g′) (λ r. refl) (amendIn c (changeList regions g) (N .things op))
+          ∙ ap (change c′ (change-regions g′)) (tabled-amend opOf c (changeList regions g) (λ r. refl) (change-regions g) (λ r. refl) (N .things op))
 
   moved-orders : ordersOf M ≡ ordersOf N
   unfolding ordersOf amend upd
@@ -139,7 +138,7 @@ module _ {P : State} (S : Sound P) (x o o′ : ℕ) (at : P .own (reg, x) regs �
   pub stay-accept : meaning P ≡ accept (move-region nx from₀) (meaning P)
   unfolding births new-flags new-types carry-out hand-over reorder order
   stay-accept =
-      accepted S (move-region nx from₀)
+      accept-kept S (move-region nx from₀)
       record {
         tables = refl;
         tags = refl;
@@ -161,9 +160,6 @@ module _ {P : State} (S : Sound P) (x o o′ : ℕ) (at : P .own (reg, x) regs �
     apart : from₀ ≢ to₀
     apart e = other (sym (same-op o o′ (L .home) home′ e))
 
-    table : {A : Type 0} (f : Rec → A) → tabled f (view P .things op) ≡ map (λ q. (num P (op, q), f (recOf P (op, q)))) (P .tab op .order)
-    table f = tabled-view P op f
-
     once-there : count ℕ-discrete nx (row o) ≤ 1
     once-there =
         omega (
@@ -174,13 +170,10 @@ module _ {P : State} (S : Sound P) (x o o′ : ℕ) (at : P .own (reg, x) regs �
         )
 
     changed-at : (p : ℕ) (f g : List ℕ → List ℕ) → Live P (op, p) → f (row p) ≡ g (row p) → change (num P (op, p)) (change-regions f) (tabled opOf (view P .things op)) ≡ change (num P (op, p)) (change-regions g) (tabled opOf (view P .things op))
-    unfolding change-regions recOf alive
+    unfolding change-regions recOf
     changed-at p f g lp e =
-        ap (change (num P (op, p)) (change-regions f)) (table opOf)
-        ∙ change-on (λ q. num P (op, q)) (λ q. opOf (recOf P (op, q))) (num P (op, p)) (change-regions f) (change-regions g) (P .tab op .order)
-        (λ q j m. let r : q ≡ p = same-op q p j lp m in
-        λ k. record { results = opOf (recOf P (op, q)) .results; operands = opOf (recOf P (op, q)) .operands; successors = opOf (recOf P (op, q)) .successors; regions = subst (λ (s : ℕ). f (row s) ≡ g (row s)) (sym r) e k; block = opOf (recOf P (op, q)) .block })
-        ∙ ap (change (num P (op, p)) (change-regions g)) (sym (table opOf))
+        change-there (S .linked) op opOf p (change-regions f) (change-regions g) lp
+        (λ k. record { results = opOf (recOf P (op, p)) .results; operands = opOf (recOf P (op, p)) .operands; successors = opOf (recOf P (op, p)) .successors; regions = e k; block = opOf (recOf P (op, p)) .block })
 
     operations : change to₀ (change-regions (insertAt i nx)) (change from₀ (change-regions (swapOut ℕ-discrete nx)) (tabled opOf (view P .things op))) ≡ change to₀ (change-regions (λ xs. xs ++ (nx ∷ []))) (change from₀ (change-regions (swap-out nx)) (tabled opOf (view P .things op)))
     operations =
@@ -213,7 +206,7 @@ module _ {P : State} (S : Sound P) (x o o′ : ℕ) (at : P .own (reg, x) regs �
     pub move-accept : meaning (moveRegion (reg, x) (op, o) (op, o′) i P) ≡ accept (move-region nx to₀) (meaning P)
     unfolding births new-flags new-types carry-out reorder order moveRegion enter relink setOwn setList
     move-accept =
-        accepted moved-sound (move-region nx to₀)
+        accept-kept moved-sound (move-region nx to₀)
         record {
           tables = refl;
           tags = refl;

@@ -1,33 +1,26 @@
 -- Uses that move to another definition: one, and the listed ones, by places as the rules say it. Assumes nothing.
-use mathlib.Core.Path.{_≡_, refl, sym, ap, ap₂, _∙_, subst}
-use mathlib.Core.Logic.{_≢_, ite, by-cases}
-use mathlib.Core.Bool.{Bool, true, false, not, cond, _&&_, _||_}
-use mathlib.Core.List.{List, [], _∷_, _++_, map}
-use mathlib.Core.Option.{Option, none, some}
-use native.Mathlib.Decide.{ℕ-discrete}
-use native.Mathlib.Omega.{arith}
-use Prim.Native.Nat.{ℕ, zero, suc, _+_, _-_, _<_, _≤_}
-use lib.Dec.{eqb}
-use lib.ListN.{length}
-use borrow.Author.Tests.{eq-eqb, ne-eqb, eqb-true}
-use Rattle.seqs.specs.Seqs.{upd, tick, count, In}
-use Rattle.places.specs.Store.{Kind, op, blk, reg, val, usg, Role, Fam, useSets, Thing, Thing-dec, Con, State, alive, Live, Link, Fit, UseHeld, Sound, enter, leave, relink, setOwn, setList}
-use Rattle.places.specs.View.{Rec, Names, num, named, namedC, recOf, view, amendIn, amend, setHome, nHold}
+use mathlib.Core.Path.{_≡_, refl, sym, ap, _∙_, subst}
+use mathlib.Core.Logic.{_≢_}
+use mathlib.Core.Bool.{Bool, cond}
+use mathlib.Core.Option.{some}
+use Prim.Native.Nat.{ℕ}
+use borrow.Author.Tests.{eq-eqb, ne-eqb}
+use Rattle.seqs.specs.Seqs.{upd}
+use Rattle.places.specs.Store.{op, blk, reg, val, usg, useSets, Con, State, Live, Fit, UseHeld, Sound, enter, leave, relink, setOwn, setList}
+use Rattle.places.specs.View.{Names, num, view, amend, setHome, nHold}
 use Rattle.places.specs.Edits.{moveUse}
-use Rattle.places.specs.Plain.{tabled}
-use Rattle.places.specs.Hist.{opOf, blockOf, useOf, bornOf, hist, ordersOf, ruleState, meaning}
+use Rattle.places.specs.Hist.{tabled, opOf, blockOf, useOf, bornOf, hist, ordersOf, ruleState, meaning}
 use Rattle.places.specs.Alias.{RState}
-use Rattle.edit.specs.Record.{Slot, operand, successor, Definition, Edit, move-use, replace-some}
-use Rattle.edit.specs.Record as R
-use Rattle.rules.specs.Table.{Table, find, change, change-all, member}
-use Rattle.rules.specs.History.{Five, zeros, plus, History, births, bear, carry-out, remember, defined, same-definition, with-uses, place-some}
+use Rattle.edit.specs.Record.{Slot, Definition, Edit, move-use}
+use Rattle.rules.specs.Table.{Table, change}
+use Rattle.rules.specs.History.{zeros, plus, births, bear, carry-out, remember, defined, with-uses}
 use Rattle.rules.specs.Orders.{order, reorder}
 use Rattle.rules.specs.State.{new-flags, new-types, accept}
 use Rattle.places.proofs.Steps.{some-inj}
 use Rattle.places.proofs.MoveUse.{moveUse-sound, moveUse-view}
-use Rattle.places.proofs.Bits.{bit, bit-eqb, bit-true, bit-false, tabled-view}
-use Rattle.places.specs.Roles.{slotRole, defKind, defRole}
-use Rattle.places.proofs.RuleAccept.{Quiet, accept-quiet, endedOf, tabled-amend}
+use Rattle.places.specs.Roles.{defKind, defRole}
+use Rattle.places.proofs.Entries.{tabled-amend, plus-zeros}
+use Rattle.places.proofs.RuleAccept.{Quiet, accept-quiet, endedOf}
 use Rattle.places.proofs.RuleUses.{def-is, def-holder}
 
 -- ---- a store whose uses have other definitions, and else is the same
@@ -47,20 +40,13 @@ pub rehold-twice : (t t′ : Table Definition) (s : RState) → rehold t (rehold
 unfolding rehold with-uses
 rehold-twice t t′ s = refl
 
-zero-more : (a : ℕ) → a ≡ a + 0
-zero-more a = omega arith
-
-none-born : (x : Five) → x ≡ plus x zeros
-unfolding plus zeros
-none-born x = λ k. record { operations = zero-more (x .operations) k; blocks = zero-more (x .blocks) k; regions = zero-more (x .regions) k; values = zero-more (x .values) k; uses = zero-more (x .uses) k }
-
 -- what the rules make of an edit that only places uses
 pub reheld-accept : (P Q : State) → Sound Q → (E : Edit) → Quiet E → (t : Table Definition) → meaning Q ≡ rehold t (meaning P)
     → remember E (meaning P .history) ≡ bear (plus (meaning P .history .born) zeros) (with-uses (meaning P .history) t) → meaning Q ≡ accept E (meaning P)
 unfolding meaning ruleState rehold with-uses bear hist
 reheld-accept P Q S E Z t e h =
     accept-quiet P S E Z (endedOf P) (endedOf Q)
-    (ap (λ (s : RState). s .history) e ∙ (λ i. record { operations = tabled opOf (view P .things op); blocks = tabled blockOf (view P .things blk); uses = t; born = none-born (bornOf (view P)) i; ended = endedOf P }) ∙ sym h)
+    (ap (λ (s : RState). s .history) e ∙ (λ i. record { operations = tabled opOf (view P .things op); blocks = tabled blockOf (view P .things blk); uses = t; born = sym (plus-zeros (bornOf (view P))) i; ended = endedOf P }) ∙ sym h)
     (ap (λ (s : RState). s .flags) e)
     (ap (λ (s : RState). s .types) e)
     (ap (λ (s : RState). s .orders) e)

@@ -2,36 +2,34 @@
 -- For all kinds, lists and definitions. Assumes nothing.
 use mathlib.Core.Path.{_≡_, refl, sym, ap, ap₂, _∙_, subst}
 use mathlib.Core.Logic.{_≢_, by-cases, ⊎-elim}
-use mathlib.Core.Bool.{Bool, true, false, not, cond, _&&_, _||_}
-use mathlib.Core.List.{List, [], _∷_, _++_, map, map-map}
+use mathlib.Core.Bool.{Bool, true, false, cond, _||_}
+use mathlib.Core.List.{List, [], _∷_, map}
 use mathlib.Core.Option.{Option, none, some}
 use native.Mathlib.Decide.{ℕ-discrete}
 use native.Mathlib.Omega.{arith}
-use Prim.Native.Nat.{ℕ, zero, suc, _+_, _-_, _<_, _≤_}
-use lib.Dec.{eqb, ltb}
-use lib.ListN.{length, length-map, getD}
-use Rattle.seqs.specs.Seqs.{tick, count, In, sum}
-use Rattle.places.specs.Store.{Kind, op, blk, reg, val, usg, Role, operands, successors, valueUses, blockUses, results, arguments, regions, Fam, slots, useSets, vals, regs, fam, nodeOf, holderOf, Thing, Thing-dec, Con, Con-dec, State, alive, Live, Link, Linked, UseHeld, Sound, owns, outer, up}
+use Prim.Native.Nat.{ℕ, _+_, _-_}
+use lib.Dec.{eqb}
+use lib.ListN.{length, length-map}
+use Rattle.seqs.specs.Seqs.{tick, count, In, Rises, sum}
+use Rattle.places.specs.Store.{Kind, op, blk, reg, val, usg, Role, operands, successors, results, arguments, regions, slots, useSets, vals, fam, nodeOf, holderOf, Thing, Thing-dec, Con, State, alive, Live, Link, Linked, UseHeld, Sound, outer, up}
 use Rattle.places.specs.View.{Rec, num, homeBy, recOf, view}
 use Rattle.edit.specs.Record.{Slot, operand, successor, Member, operation, block, Definition}
-use Rattle.places.specs.Plain.{defBy, defOf, tabled}
-use Rattle.places.specs.Hist.{opOf, blockOf, useOf, hist, ordersOf}
-use Rattle.places.specs.Walk.{pick, sgn, usesAt}
+use Rattle.places.specs.Hist.{defOf, tabled, opOf, blockOf, useOf, hist}
+use Rattle.places.specs.Walk.{pick, sgn, sift, things, usesAt}
 use Rattle.places.specs.Roles.{Unnamed, slotRole, valueRole, memberKind}
-use Rattle.rules.specs.Table.{Table, is-some, some-and, find, find-key, keys-where, any, items, member}
-use Rattle.rules.specs.History.{Operation, Block, History, live-operation, live-block, live-region, live-value, parent, user, container, uses-of, slot-of, uses-in, all-uses-in, values-at, results-of, arguments-of, same-definition, defined}
+use Rattle.rules.specs.Table.{Table, is-some, find, find-key, keys-where, any, items, member}
+use Rattle.rules.specs.History.{Operation, Block, History, live-operation, live-block, live-region, live-value, parent, user, container, uses-of, slot-of, uses-in, all-uses-in, values-at, results-of, arguments-of, same-definition}
 use Rattle.rules.specs.Refusal.{slot-length, values-length}
-use Rattle.seqs.proofs.Base.{tick-yes, tick-no, tick-pos, in-head, in-tail, count-append, map-append, rises-once}
-use Rattle.seqs.proofs.Sums.{sum-on, sum-map, length-count, count-map}
+use Rattle.seqs.proofs.Base.{tick-yes, tick-no, in-head, in-tail, count-append, map-append}
+use Rattle.seqs.proofs.Sums.{sum-on, sum-map, length-count}
 use Rattle.places.proofs.Steps.{thing-eq, listed, once}
-use Rattle.places.proofs.Sees.{num-inj}
-use Rattle.places.proofs.Cut.{pick-0, pick-1, zero-or}
+use Rattle.places.proofs.Cut.{pick-0, pick-1, zero-or, rises-sift}
 use Rattle.places.proofs.Nest.{upTo}
 use Rattle.places.proofs.DropAll.{fam-code, slot-roles, value-roles, uses-at}
 use Rattle.places.proofs.Bits.{bit, bit-eqb, bit-true, bit-false, bit-member, sgn-tick, key-tabled, tabled-view, find-view, count-nums}
 use Rattle.places.proofs.Tables.{items-tabled, in-mapped}
 use Rattle.places.proofs.RuleClimb.{numOpt, block-at-num, region-at-num, parent-num}
-use Rattle.places.proofs.RuleOutside.{IsDef, fit-def, nameOf, same-def}
+use Rattle.places.proofs.RuleOutside.{IsDef, nameOf, use-def, set-once}
 
 -- ---- tables over a list of places
 
@@ -58,6 +56,19 @@ module _ {A : Type 0} (nm : ℕ → ℕ) (g : ℕ → A) where
       go : length rest ≡ sum (λ q. bit (test (g q))) l → (b : Bool) → length (cond b (nm q ∷ rest) rest) ≡ bit b + sum (λ q. bit (test (g q))) l
       go ih true = omega (arith, ih)
       go ih false = omega (arith, ih)
+
+  -- which
+  keys-sift : (test : A → Bool) (n : ℕ → ℕ) (l : List ℕ) → ((q : ℕ) → In ℕ-discrete q l → bit (test (g q)) ≡ n q) → keys-where test (map (λ q. (nm q, g q)) l) ≡ map nm (sift (λ q. 1 - n q) l)
+  unfolding keys-where pick
+  keys-sift test n [] h = refl
+  keys-sift test n (q ∷ l) h = go (keys-sift test n l (λ r i. h r (in-tail ℕ-discrete r q l i))) (test (g q)) (h q (in-head ℕ-discrete q l))
+    where
+      rest : List ℕ
+      rest = keys-where test (map (λ q. (nm q, g q)) l)
+
+      go : rest ≡ map nm (sift (λ q. 1 - n q) l) → (b : Bool) → bit b ≡ n q → cond b (nm q ∷ rest) rest ≡ map nm (pick (1 - n q) (q ∷ sift (λ q. 1 - n q) l) (sift (λ q. 1 - n q) l))
+      go ih true e = let z : 1 - n q ≡ 0 = omega (arith, e) in ap {B = List ℕ} (λ r. nm q ∷ r) ih ∙ ap (λ (m : ℕ). map nm (pick m (q ∷ sift (λ q. 1 - n q) l) (sift (λ q. 1 - n q) l))) (sym z)
+      go ih false e = let z : 1 - n q ≡ 1 = omega (arith, e) in ih ∙ ap (λ (m : ℕ). map nm (pick m (q ∷ sift (λ q. 1 - n q) l) (sift (λ q. 1 - n q) l))) (sym z)
 
 any-some : {A : Type 0} (f : A → Bool) (g : ℕ → A) (l : List ℕ) (q : ℕ) → In ℕ-discrete q l → f (g q) ≡ true → any f (map g l) ≡ true
 unfolding any
@@ -267,39 +278,11 @@ module _ {P : State} (S : Sound P) (e : ℕ) where
   unfolding hist
   use-dead n d = find-dead (S .linked) usg useOf n d
 
-  def-fam : {r : Role} → IsDef r → fam r ≡ useSets
-  def-fam IsDef.of-val = refl
-  def-fam IsDef.of-blk = refl
-
-  use-node : {r : Role} → IsDef r → nodeOf r ≡ usg
-  use-node IsDef.of-val = refl
-  use-node IsDef.of-blk = refl
-
   -- the uses of a definition: as many as its set has
   module _ (c : Con) (d : IsDef (c .0)) (k : c .1 .0 ≡ holderOf (c .0)) (lc : Live P (c .1)) where
     -- is this a use of it?
     pub use-test : (u : ℕ) → Live P (usg, u) → bit (same-definition (nameOf P c) (useOf (recOf P (usg, u)))) ≡ count Thing-dec (usg, u) (P .list (c .1) (c .0))
-    unfolding recOf owns
-    use-test u lu =
-        let H : UseHeld (P .own (usg, u)) = S .placed (usg, u) lu in
-        let M : Link P (usg, u) useSets (H .def) = S .linked .link (usg, u) useSets (H .def) (H .in-def) in
-        ap (λ (o : Option Con). bit (same-definition (nameOf P c) (defOf (homeBy (num P) o)))) (H .in-def)
-        ∙ same-def (S .linked) (c .0) (H .def .0) (c .1) (H .def .1) d (fit-def (H .fit)) k (M .holder) lc (M .home)
-        ∙ ap (λ (o : Option Con). owns o c) (sym (H .in-def))
-        ∙ ap (λ (f : Fam). owns (P .own (usg, u) f) c) (sym (def-fam d))
-        ∙ sym (S .linked .held (c .0) (c .1) (usg, u))
-
-    abbrev all : List Thing
-    all = map (λ u. (usg, u)) (P .tab usg .order)
-
-    all-once : (y : Thing) → In Thing-dec y (P .list (c .1) (c .0)) → count Thing-dec y all ≡ 1
-    unfolding alive
-    all-once y i =
-        let L : Link P y (fam (c .0)) c = S .linked .link y (fam (c .0)) c (listed (S .linked) y (c .1) (c .0) i) in
-        let j : y ≡ (usg, y .1) = thing-eq y (usg, y .1) (L .node ∙ use-node d) refl in
-        ap (λ (z : Thing). count Thing-dec z all) j
-        ∙ count-map ℕ-discrete Thing-dec (λ v. (usg, v)) (λ p q m. ap (λ (z : Thing). z .1) m) (y .1) (P .tab usg .order)
-        ∙ rises-once (P .tab usg .num) (P .tab usg .order) (S .linked .tabs usg .rises) (y .1) (subst (λ (z : Thing). Live P z) j (L .live))
+    use-test = use-def S (c .0) (c .1) d k lc
 
     pub uses-long : length (uses-of h (nameOf P c)) ≡ length (P .list (c .1) (c .0))
     unfolding uses-of hist alive
@@ -308,4 +291,17 @@ module _ {P : State} (S : Sound P) (e : ℕ) where
         ∙ keys-length (λ u. num P (usg, u)) (λ u. useOf (recOf P (usg, u))) (same-definition (nameOf P c)) (P .tab usg .order)
         ∙ sum-on ℕ-discrete (λ u. bit (same-definition (nameOf P c) (useOf (recOf P (usg, u))))) (λ u. count Thing-dec (usg, u) (P .list (c .1) (c .0))) (P .tab usg .order) use-test
         ∙ sym (sum-map (λ y. count Thing-dec y (P .list (c .1) (c .0))) (λ u. (usg, u)) (P .tab usg .order))
-        ∙ sym (length-count Thing-dec (P .list (c .1) (c .0)) all all-once)
+        ∙ sym (length-count Thing-dec (P .list (c .1) (c .0)) (things P usg) (set-once S (c .0) (c .1) d))
+
+    -- and in rising number: the live uses that stand in its set, in the order of their births
+    abbrev pub risen : List ℕ
+    risen = sift (λ u. 1 - count Thing-dec (usg, u) (P .list (c .1) (c .0))) (P .tab usg .order)
+
+    pub uses-risen : uses-of h (nameOf P c) ≡ map (λ u. num P (usg, u)) risen
+    unfolding uses-of hist alive
+    uses-risen =
+        ap (keys-where (same-definition (nameOf P c))) (tabled-view P usg useOf)
+        ∙ keys-sift (λ u. num P (usg, u)) (λ u. useOf (recOf P (usg, u))) (same-definition (nameOf P c)) (λ u. count Thing-dec (usg, u) (P .list (c .1) (c .0))) (P .tab usg .order) use-test
+
+    pub uses-rise : Rises (λ u. num P (usg, u)) risen
+    uses-rise = rises-sift (λ u. num P (usg, u)) (λ u. 1 - count Thing-dec (usg, u) (P .list (c .1) (c .0))) (P .tab usg .order) (S .linked .tabs usg .rises)

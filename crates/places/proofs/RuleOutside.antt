@@ -1,38 +1,37 @@
 -- The tests behind 13 and 14 by places and marks are the rules' by numbers. Assumes nothing.
 use mathlib.Core.Path.{_≡_, refl, sym, ap, ap₂, _∙_, subst, fun-ext}
-use mathlib.Core.Logic.{_≢_, by-cases, _⊎_, inl, inr, ⊎-elim}
-use mathlib.Core.Bool.{Bool, true, false, not, cond, _&&_, _||_}
-use mathlib.Core.List.{List, [], _∷_, _++_, map, map-map}
+use mathlib.Core.Logic.{_≢_, by-cases, ⊎-elim}
+use mathlib.Core.Bool.{Bool, cond}
+use mathlib.Core.List.{List, [], _∷_, map}
 use mathlib.Core.Option.{Option, none, some}
 use native.Mathlib.Decide.{ℕ-discrete}
 use native.Mathlib.Omega.{arith}
-use Prim.Native.Nat.{ℕ, zero, suc, _+_, _<_, _≤_}
+use Prim.Native.Nat.{ℕ, _+_, _<_, _≤_}
 use lib.Dec.{eqb}
 use lib.ListN.{length}
 use Rattle.seqs.specs.Seqs.{tick, count, In, sum}
-use Rattle.places.specs.Store.{Kind, op, blk, reg, val, usg, Role, operands, successors, valueUses, blockUses, results, arguments, regions, ops, blocks, Fam, slots, useSets, vals, opsIn, fam, nodeOf, holderOf, Thing, Thing-dec, Con, Con-dec, State, alive, Live, Link, Linked, UseHeld, Fit, Sound, owns, outer, up}
-use Rattle.places.specs.View.{Rec, num, homeBy, recOf, view}
+use Rattle.places.specs.Store.{op, blk, reg, val, usg, Role, valueUses, blockUses, results, arguments, ops, Fam, useSets, opsIn, fam, nodeOf, holderOf, Thing, Thing-dec, Con, Con-dec, State, alive, Live, Link, Linked, UseHeld, Fit, Sound, owns, up}
+use Rattle.places.specs.View.{num, homeBy, recOf, view}
 use Rattle.edit.specs.Record.{Definition, of-value, of-block}
-use Rattle.places.specs.Plain.{defBy, defOf, tabled}
-use Rattle.places.specs.Hist.{opOf, blockOf, useOf, hist, theThing}
-use Rattle.places.specs.Walk.{over, pick, sgn, sift, among, kids, walk, valuesAt, dropList, defSets, markOf, strayAt, strays, straysIn}
-use Rattle.rules.specs.Table.{Table, some-and, find, any, items, keep, keep-keys, concat, member, gather}
+use Rattle.places.specs.Hist.{defBy, defOf, opOf, blockOf, useOf, hist, theThing}
+use Rattle.places.specs.Walk.{pick, sgn, sift, among, walk, valuesAt, dropList, markOf, strayAt, strays, straysIn, things}
+use Rattle.rules.specs.Table.{Table, some-and, find, any, items, keep, concat, gather}
 use Rattle.places.specs.Alias.{RThing}
-use Rattle.rules.specs.History.{values-at, Operation, Block, History, same-definition, results-of, arguments-of, operation-in, block-in, uses-inside, with-operations, end-uses, drop-inside}
+use Rattle.rules.specs.History.{values-at, Operation, Block, History, same-definition, results-of, arguments-of, operation-in, block-in, with-operations, end-uses, drop-inside}
 use Rattle.rules.specs.Refusal.{used-outside, definitions-in, direct, meets}
-use Rattle.seqs.proofs.Base.{tick-yes, tick-no, tick-pos, in-head, in-tail, count-append, rises-once}
-use Rattle.places.proofs.Steps.{some-inj, some-none, thing-eq, listed, up-live}
+use Rattle.seqs.proofs.Base.{tick-yes, tick-no, rises-once}
+use Rattle.places.proofs.Steps.{thing-eq, listed, up-live}
 use Rattle.places.proofs.Fuel.{around}
 use Rattle.places.proofs.Sees.{num-inj}
 use Rattle.seqs.proofs.Sums.{sum-on, sum-map, sum-append, length-count, count-map}
-use Rattle.places.proofs.Cut.{pick-0, pick-1, zero-or, sift-on, sift-in, count-sift}
+use Rattle.places.proofs.Cut.{zero-or, sift-on, sift-in, count-sift}
 use Rattle.places.proofs.Nest.{kindCode, upTo, kids-up, walk-live}
 use Rattle.places.proofs.DropTurn.{list-none, kids-blk, values-op, values-blk}
-use Rattle.places.proofs.Bits.{bit, or-sum, bit-eqb, sgn-bit, sgn-tick, tabled-view, find-view}
-use Rattle.places.proofs.Tables.{sum-tabled, items-tabled, sum-kept, bit-any, sum-sift, sum-some, in-mapped, cond-pos, cond-true}
+use Rattle.places.proofs.Bits.{bit, or-sum, bit-eqb, sgn-bit, tabled-view, find-view}
+use Rattle.places.proofs.Tables.{sum-tabled, items-tabled, sum-kept, bit-any, sum-sift, sum-some, cond-pos, cond-true}
 use Rattle.places.proofs.RuleClimb.{numOpt, number-home, up-kind, operation-in-walk, block-in-walk}
 use Rattle.places.proofs.RuleDrop.{defs-left}
-use Rattle.places.proofs.Outside.{part-sum, Marks, mark-use, sgn-pos, sgn-iff, not-walked}
+use Rattle.places.proofs.Outside.{part-sum, Marks, mark-use, sgn-pos, sgn-iff}
 
 -- a definition's number, and its set of uses
 pub data IsDef : Role → Type 0 where
@@ -57,6 +56,34 @@ module _ {P : State} (S : Linked P) where
   same-def r s a b IsDef.of-val IsDef.of-blk ka kb la lb = sym (tick-no (Con-dec (blockUses, b) (valueUses, a)) (λ e. let q : blockUses ≡ valueUses = ap (λ (d : Con). d .0) e in absurd (let z : _≡_ {A = ℕ} 0 1 = cc in omega arith)))
   same-def r s a b IsDef.of-blk IsDef.of-val ka kb la lb = sym (tick-no (Con-dec (valueUses, b) (blockUses, a)) (λ e. let q : valueUses ≡ blockUses = ap (λ (d : Con). d .0) e in absurd (let z : _≡_ {A = ℕ} 0 1 = cc in omega arith)))
   same-def r s a b IsDef.of-blk IsDef.of-blk ka kb la lb = bit-eqb (num P a) (num P b) ∙ by-cases (Thing-dec a b) (λ e. tick-yes (ℕ-discrete (num P a) (num P b)) (ap (num P) e) ∙ sym (tick-yes (Con-dec (blockUses, b) (blockUses, a)) (ap (λ (t : Thing). (blockUses, t)) (sym e)))) (λ n. tick-no (ℕ-discrete (num P a) (num P b)) (λ e. n (num-inj P (S .tabs) a b (ka ∙ sym kb) la lb e)) ∙ sym (tick-no (Con-dec (blockUses, b) (blockUses, a)) (λ e. n (sym (ap (λ (d : Con). d .1) e)))))
+
+use-node : {r : Role} → IsDef r → nodeOf r ≡ usg
+use-node IsDef.of-val = refl
+use-node IsDef.of-blk = refl
+
+-- the set of a definition, over the live uses
+module _ {P : State} (S : Sound P) where
+  -- does the use have this definition?
+  pub use-def : (r : Role) (a : Thing) → IsDef r → a .0 ≡ holderOf r → Live P a → (u : ℕ) → Live P (usg, u) → bit (same-definition (nameOf P (r, a)) (useOf (recOf P (usg, u)))) ≡ count Thing-dec (usg, u) (P .list a r)
+  unfolding recOf owns
+  use-def r a d k la u lu =
+      let H : UseHeld (P .own (usg, u)) = S .placed (usg, u) lu in
+      let M : Link P (usg, u) useSets (H .def) = S .linked .link (usg, u) useSets (H .def) (H .in-def) in
+      ap (λ (o : Option Con). bit (same-definition (nameOf P (r, a)) (defOf (homeBy (num P) o)))) (H .in-def)
+      ∙ same-def (S .linked) r (H .def .0) a (H .def .1) d (fit-def (H .fit)) k (M .holder) la (M .home)
+      ∙ ap (λ (o : Option Con). owns o (r, a)) (sym (H .in-def))
+      ∙ ap (λ (f : Fam). owns (P .own (usg, u) f) (r, a)) (sym (def-fam d))
+      ∙ sym (S .linked .held r a (usg, u))
+
+  -- each of the set is live once
+  pub set-once : (r : Role) (a : Thing) → IsDef r → (y : Thing) → In Thing-dec y (P .list a r) → count Thing-dec y (things P usg) ≡ 1
+  unfolding alive
+  set-once r a d y i =
+      let L : Link P y (fam r) (r, a) = S .linked .link y (fam r) (r, a) (listed (S .linked) y a r i) in
+      let k : y ≡ (usg, y .1) = thing-eq y (usg, y .1) (L .node ∙ use-node d) refl in
+      ap (λ (z : Thing). count Thing-dec z (things P usg)) k
+      ∙ count-map ℕ-discrete Thing-dec (λ v. (usg, v)) (λ p q m. ap (λ (z : Thing). z .1) m) (y .1) (P .tab usg .order)
+      ∙ rises-once (P .tab usg .num) (P .tab usg .order) (S .linked .tabs usg .rises) (y .1) (subst (λ (z : Thing). Live P z) k (L .live))
 
 bit-meets : (h : History) (ds out : List Definition) → bit (meets h ds out) ≡ sgn (sum (λ d. sum (λ d′. bit (same-definition d d′)) out) ds)
 unfolding meets pick
@@ -83,45 +110,17 @@ module _ {P : State} (S : Sound P) (e : ℕ) (x : Thing) (lx : Live P x) (kx : k
   unfolding used-outside drop-inside end-uses with-operations hist
   out-is = ap items (defs-left S e x lx kx) ∙ items-tabled (λ u. num P (usg, u)) (λ u. useOf (recOf P (usg, u))) (sift (λ u. D (usg, u)) (P .tab usg .order))
 
-  -- does the use have this definition?
-  use-def : (r : Role) (a : Thing) → IsDef r → a .0 ≡ holderOf r → Live P a → (u : ℕ) → Live P (usg, u) → bit (same-definition (nameOf P (r, a)) (useOf (recOf P (usg, u)))) ≡ count Thing-dec (usg, u) (P .list a r)
-  unfolding recOf owns
-  use-def r a d k la u lu =
-      let H : UseHeld (P .own (usg, u)) = S .placed (usg, u) lu in
-      let M : Link P (usg, u) useSets (H .def) = S .linked .link (usg, u) useSets (H .def) (H .in-def) in
-      ap (λ (o : Option Con). bit (same-definition (nameOf P (r, a)) (defOf (homeBy (num P) o)))) (H .in-def)
-      ∙ same-def (S .linked) r (H .def .0) a (H .def .1) d (fit-def (H .fit)) k (M .holder) la (M .home)
-      ∙ ap (λ (o : Option Con). owns o (r, a)) (sym (H .in-def))
-      ∙ ap (λ (f : Fam). owns (P .own (usg, u) f) (r, a)) (sym (def-fam d))
-      ∙ sym (S .linked .held r a (usg, u))
-
-  abbrev all : List Thing
-  all = map (λ u. (usg, u)) (P .tab usg .order)
-
-  use-node : {r : Role} → IsDef r → nodeOf r ≡ usg
-  use-node IsDef.of-val = refl
-  use-node IsDef.of-blk = refl
-
-  all-once : (r : Role) (a : Thing) → IsDef r → (y : Thing) → In Thing-dec y (P .list a r) → count Thing-dec y all ≡ 1
-  unfolding alive
-  all-once r a d y i =
-      let L : Link P y (fam r) (r, a) = S .linked .link y (fam r) (r, a) (listed (S .linked) y a r i) in
-      let k : y ≡ (usg, y .1) = thing-eq y (usg, y .1) (L .node ∙ use-node d) refl in
-      ap (λ (z : Thing). count Thing-dec z all) k
-      ∙ count-map ℕ-discrete Thing-dec (λ v. (usg, v)) (λ p q m. ap (λ (z : Thing). z .1) m) (y .1) (P .tab usg .order)
-      ∙ rises-once (P .tab usg .num) (P .tab usg .order) (S .linked .tabs usg .rises) (y .1) (subst (λ (z : Thing). Live P z) k (L .live))
-
   -- the uses of a definition from outside
   pub outside-of : (r : Role) (a : Thing) → IsDef r → a .0 ≡ holderOf r → Live P a → F (nameOf P (r, a)) ≡ strayAt P mk (r, a)
   unfolding strayAt alive
   outside-of r a d k la =
       ap (sum (λ d′. bit (same-definition (nameOf P (r, a)) d′))) out-is
       ∙ sum-map (λ d′. bit (same-definition (nameOf P (r, a)) d′)) (λ u. useOf (recOf P (usg, u))) (sift (λ u. D (usg, u)) (P .tab usg .order))
-      ∙ sum-on ℕ-discrete (λ u. bit (same-definition (nameOf P (r, a)) (useOf (recOf P (usg, u))))) (λ u. count Thing-dec (usg, u) (P .list a r)) (sift (λ u. D (usg, u)) (P .tab usg .order)) (λ u i. use-def r a d k la u (sift-in ℕ-discrete (λ u. D (usg, u)) u (P .tab usg .order) i .1))
+      ∙ sum-on ℕ-discrete (λ u. bit (same-definition (nameOf P (r, a)) (useOf (recOf P (usg, u))))) (λ u. count Thing-dec (usg, u) (P .list a r)) (sift (λ u. D (usg, u)) (P .tab usg .order)) (λ u i. use-def S r a d k la u (sift-in ℕ-discrete (λ u. D (usg, u)) u (P .tab usg .order) i .1))
       ∙ sum-sift (λ u. count Thing-dec (usg, u) (P .list a r)) (λ u. D (usg, u)) (P .tab usg .order)
       ∙ sum-on ℕ-discrete (λ u. pick (D (usg, u)) (count Thing-dec (usg, u) (P .list a r)) 0) (λ u. count Thing-dec (usg, u) (sift D (P .list a r))) (P .tab usg .order) (λ u _. sym (count-sift Thing-dec D (usg, u) (P .list a r)))
       ∙ sym (sum-map (λ y. count Thing-dec y (sift D (P .list a r))) (λ u. (usg, u)) (P .tab usg .order))
-      ∙ sym (length-count Thing-dec (sift D (P .list a r)) all (λ y i. all-once r a d y (sift-in Thing-dec D y (P .list a r) i .1)))
+      ∙ sym (length-count Thing-dec (sift D (P .list a r)) (things P usg) (λ y i. set-once S r a d y (sift-in Thing-dec D y (P .list a r) i .1)))
       ∙ ap length (sift-on Thing-dec D (markOf P mk) (P .list a r) (λ y _. sym (mark-use (S .linked) x mk right y)))
 
   -- of the values of a list

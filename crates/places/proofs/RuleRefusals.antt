@@ -1,13 +1,13 @@
 -- How a refusal is made: the first name that is missing, then the tests of the state; what a code makes of the reply; 20 and 21.
 -- Assumes nothing.
 use mathlib.Core.Path.{_≡_, refl, sym, ap, ap₂, _∙_}
-use mathlib.Core.Logic.{_≢_, ite, if-pos, if-neg, by-cases}
-use mathlib.Core.Bool.{Bool, true, false, cond, _||_}
-use mathlib.Core.List.{List, [], _∷_, _++_}
-use native.Mathlib.Decide.{ℕ-discrete, decLt}
+use mathlib.Core.Logic.{ite, if-pos, if-neg, by-cases}
+use mathlib.Core.Bool.{Bool, true, false, _||_}
+use mathlib.Core.List.{List, [], _∷_}
+use native.Mathlib.Decide.{decLt}
 use native.Mathlib.Omega.{arith}
-use Prim.Native.Nat.{ℕ, zero, suc, _+_, _-_, _<_, _≤_}
-use lib.Dec.{eqb, ltb, eqb·suc-zero}
+use Prim.Native.Nat.{ℕ, suc, _-_}
+use lib.Dec.{ltb, eqb·suc-zero}
 use lib.ListN.{length}
 use borrow.Author.Tests.{lt-ltb, le-ltb}
 use Rattle.places.specs.Store.{Kind, op, blk, reg, val, usg, State, Live, Sound}

@@ -1,30 +1,29 @@
 -- A region is erased (kind 41); and how many operations an erasure frees. Assumes nothing.
-use mathlib.Core.Path.{_≡_, refl, sym, ap, ap₂, _∙_, subst, fun-ext}
-use mathlib.Core.Logic.{_≢_, by-cases, _⊎_, inl, inr, ⊎-elim}
-use mathlib.Core.Bool.{Bool, true, false, not, cond, _&&_, _||_}
-use mathlib.Core.List.{List, [], _∷_, _++_, map, map-map}
-use mathlib.Core.Option.{Option, none, some}
+use mathlib.Core.Path.{_≡_, refl, sym, ap, ap₂, _∙_, subst}
+use mathlib.Core.Logic.{_≢_, by-cases}
+use mathlib.Core.Bool.{Bool, true, false, not}
+use mathlib.Core.List.{List, [], _∷_, map}
+use mathlib.Core.Option.{Option, some}
 use native.Mathlib.Decide.{ℕ-discrete}
 use native.Mathlib.Omega.{arith}
 use Prim.Native.Nat.{ℕ, zero, suc, _+_, _<_, _≤_}
 use lib.ListN.{length, length-map, getD}
-use Rattle.seqs.specs.Seqs.{tick, count, In, sum, without, removeAt}
-use Rattle.places.specs.Store.{Kind, op, blk, reg, val, usg, Role, regions, Fam, regs, fam, nodeOf, Thing, Thing-dec, Con, State, alive, Live, Link, Linked, Sound, outer, up, nest}
-use Rattle.places.specs.View.{Rec, num, recOf, view}
-use Rattle.places.specs.Plain.{tabled}
-use Rattle.places.specs.Hist.{bornOf, opOf, blockOf, useOf, hist, theThing}
-use Rattle.places.specs.Walk.{pick, sgn, sift, cutBy, among, cutAll, walk, dropList, everything, erased}
-use Rattle.rules.specs.Table.{Table, find, keep-keys, change, remove-at}
+use Rattle.seqs.specs.Seqs.{count, In, without, removeAt}
+use Rattle.places.specs.Store.{op, reg, regions, regs, Thing, Thing-dec, State, alive, Live, Sound, outer, up, nest}
+use Rattle.places.specs.View.{num, recOf, view}
+use Rattle.places.specs.Hist.{tabled, bornOf, opOf, hist, theThing}
+use Rattle.places.specs.Walk.{sgn, sift, cutBy, among, walk, dropList, everything, erased}
+use Rattle.rules.specs.Table.{Table, keep-keys, change, remove-at}
 use Rattle.places.specs.Alias.{RThing}
 use Rattle.edit.specs.Record.{the-region, erase-region}
-use Rattle.rules.specs.History.{carry-out, Operation, Block, History, regions-of, operation-in, block-in, uses-inside, with-operations, end-uses, drop-inside, end-inside, change-regions, region-index}
-use Rattle.seqs.proofs.Base.{tick-yes, tick-no, tick-pos, in-head, in-tail, rises-once, count-less}
-use Rattle.places.proofs.Steps.{thing-eq, listed, some-inj, once}
+use Rattle.rules.specs.History.{carry-out, Operation, History, regions-of, operation-in, with-operations, end-uses, drop-inside, end-inside, change-regions, region-index}
+use Rattle.seqs.proofs.Base.{rises-once}
+use Rattle.places.proofs.Steps.{listed, some-inj, once}
 use Rattle.places.proofs.Sees.{num-inj}
 use Rattle.places.proofs.Climb.{opsOf, count-ops}
 use Rattle.seqs.proofs.Sums.{sum-on, length-count}
 use Rattle.places.proofs.Extra.{in-at, removeAt-without}
-use Rattle.places.proofs.Cut.{pick-0, pick-1, zero-or, sift-all, sift-on, sift-in, count-sift-0, Closed}
+use Rattle.places.proofs.Cut.{pick-0, pick-1, sift-all, sift-on, sift-in, Closed}
 use Rattle.places.proofs.Cuts.{one-yes, one-no, without-sift}
 use Rattle.places.proofs.Nest.{kindCode, walk-once, walk-live, walk-self, walk-parent}
 use Rattle.places.proofs.Bits.{bit, sgn-one, tabled-view, find-view}

@@ -1,33 +1,32 @@
 -- A new use takes the place of the one at an index: by places an end and a birth, as the rules say it. Assumes nothing.
 use mathlib.Core.Path.{_≡_, refl, sym, ap, ap₂, _∙_, subst, fun-ext}
-use mathlib.Core.Logic.{_≢_, by-cases, ⊎-elim}
+use mathlib.Core.Logic.{_≢_, ⊎-elim}
 use mathlib.Core.Bool.{Bool, true, false, not, cond, _||_}
 use mathlib.Core.List.{List, [], _∷_, _++_, map}
-use mathlib.Core.Option.{Option, none, some}
+use mathlib.Core.Option.{some}
 use native.Mathlib.Decide.{ℕ-discrete}
 use native.Mathlib.Omega.{arith}
-use Prim.Native.Nat.{ℕ, zero, suc, _+_, _-_, _<_, _≤_}
+use Prim.Native.Nat.{ℕ, zero, suc, _+_, _<_, _≤_}
 use lib.Dec.{eqb}
 use lib.ListN.{length, length-map, getD, set}
 use borrow.Author.Tests.{ne-eqb}
-use Rattle.seqs.specs.Seqs.{upd, insertAt, count, In, without, removeAt, sum, upto}
-use Rattle.places.specs.Store.{Kind, op, blk, reg, val, usg, Role, operands, successors, slots, useSets, fam, holderOf, Limited, Thing, Thing-dec, Con, State, alive, Live, Link, Linked, UseHeld, Sound}
+use Rattle.seqs.specs.Seqs.{upd, insertAt, count, without, removeAt, sum, upto}
+use Rattle.places.specs.Store.{Kind, op, blk, val, usg, slots, Limited, Thing, Thing-dec, Con, State, alive, Live, Linked, Sound}
 use Rattle.places.specs.View.{Rec, Names, num, view, amendIn, amend, nEnd, nBirth, nEnter, nHold}
 use Rattle.places.specs.Edits.{birthUse, nBirthUse, endUse, nEndUse}
-use Rattle.places.specs.Plain.{tabled}
 use Rattle.places.specs.Roles.{slotRole, defKind, defRole}
-use Rattle.places.specs.Hist.{opOf, blockOf, useOf, bornOf, hist, ordersOf, ruleState, meaning}
+use Rattle.places.specs.Hist.{tabled, opOf, blockOf, useOf, bornOf, hist, ordersOf, meaning}
 use Rattle.edit.specs.Record.{Slot, operand, successor, Definition, replace-use}
 use Rattle.rules.specs.Table.{find, change, keep-keys, member}
-use Rattle.rules.specs.History.{Operation, History, births, plus, bear, carry-out, remember, slot-of, defined, change-slot, end-uses, add-use}
+use Rattle.rules.specs.History.{Operation, births, plus, bear, carry-out, remember, slot-of, defined, change-slot, end-uses, add-use}
 use Rattle.rules.specs.Orders.{order, reorder}
 use Rattle.rules.specs.State.{new-flags, new-types, accept}
 use Rattle.seqs.proofs.Base.{length-falls, rises-once}
 use Rattle.seqs.proofs.Sums.{length-count, count-upto}
 use Rattle.places.proofs.Cut.{zero-or}
-use Rattle.places.proofs.Steps.{once, listed}
+use Rattle.places.proofs.Steps.{once}
 use Rattle.places.proofs.Extra.{removeAt-without}
-use Rattle.places.proofs.Plains.{next-new}
+use Rattle.places.proofs.Entries.{next-new}
 use Rattle.places.proofs.Placing.{use-holds-nothing}
 use Rattle.places.proofs.EndUse.{endUse-cap, endUse-live, endUse-num, endUse-list}
 use Rattle.places.proofs.RuleNames.{slot-list}

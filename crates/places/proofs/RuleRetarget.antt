@@ -1,14 +1,12 @@
 -- Kind 35: the uses of a block that stand at operations of listed blocks move, one after the other. Assumes nothing.
 use mathlib.Core.Path.{_≡_, refl, sym, ap, ap₂, _∙_, subst, fun-ext}
-use mathlib.Core.Logic.{_≢_}
 use mathlib.Core.Bool.{Bool, true, false, _||_}
-use mathlib.Core.List.{List, [], _∷_}
+use mathlib.Core.List.{List}
 use mathlib.Core.Option.{Option, none, some}
-use native.Mathlib.Omega.{arith}
 use Prim.Native.Nat.{ℕ}
 use lib.Dec.{eqb}
 use borrow.Author.Tests.{eqb-true}
-use Rattle.places.specs.Store.{op, blk, usg, Role, blockUses, slots, useSets, Thing, Con, State, Live, UseHeld, Link, Sound, outer, up}
+use Rattle.places.specs.Store.{op, blk, usg, blockUses, slots, useSets, Thing, Con, State, Live, UseHeld, Link, Sound, outer, up}
 use Rattle.places.specs.View.{num, view}
 use Rattle.places.specs.Edits.{moveUse}
 use Rattle.places.specs.Hist.{hist, ruleState, meaning}

@@ -1,35 +1,30 @@
 -- The uses of a definition that pass a test move to another: table laws, and one use after another by places. Assumes nothing.
-use mathlib.Core.Path.{_≡_, refl, sym, ap, ap₂, _∙_, subst}
-use mathlib.Core.Logic.{_≢_, by-cases}
-use mathlib.Core.Bool.{Bool, true, false, not, cond, _&&_, _||_}
-use mathlib.Core.List.{List, [], _∷_, _++_, map}
-use mathlib.Core.Option.{Option, none, some}
+use mathlib.Core.Path.{_≡_, refl, sym, ap, ap₂, _∙_}
+use mathlib.Core.Logic.{by-cases}
+use mathlib.Core.Bool.{Bool, true, false, cond, _&&_, _||_}
+use mathlib.Core.List.{List, [], _∷_, map}
+use mathlib.Core.Option.{Option, some}
 use native.Mathlib.Decide.{ℕ-discrete}
 use native.Mathlib.Omega.{arith}
-use Prim.Native.Nat.{ℕ, zero, suc, _+_, _-_, _<_, _≤_}
+use Prim.Native.Nat.{ℕ}
 use lib.Dec.{eqb}
-use lib.ListN.{length}
 use borrow.Author.Tests.{eqb-true, eqb-false, eq-eqb, ne-eqb}
-use Rattle.seqs.specs.Seqs.{tick, count, In}
-use Rattle.places.specs.Store.{Kind, op, blk, val, usg, Role, useSets, Thing, Con, Con-dec, State, alive, Live, Link, UseHeld, Sound}
-use Rattle.places.specs.View.{Rec, num, homeBy, recOf, view}
+use Rattle.seqs.specs.Seqs.{tick, In}
+use Rattle.places.specs.Store.{usg, useSets, Thing, Con, Con-dec, State, alive, Live, Link, UseHeld, Sound}
+use Rattle.places.specs.View.{num, homeBy, recOf}
 use Rattle.places.specs.Edits.{moveUse}
-use Rattle.places.specs.Plain.{defOf, tabled}
-use Rattle.places.specs.Hist.{useOf, hist, ruleState, meaning}
-use Rattle.places.specs.Alias.{RState}
-use Rattle.places.specs.Roles.{Unnamed, defKind, defRole}
-use Rattle.edit.specs.Record.{Slot, operand, successor, Definition, of-value, of-block, Edit, replace-some, retarget-some}
-use Rattle.rules.specs.Table.{Table, find, change, change-all, member}
-use Rattle.rules.specs.History.{History, zeros, plus, births, bear, carry-out, remember, defined, same-definition, with-uses, place-some}
-use Rattle.rules.specs.Orders.{order, reorder}
-use Rattle.rules.specs.State.{new-flags, new-types, accept}
+use Rattle.places.specs.Hist.{defOf, useOf, hist, ruleState, meaning}
+use Rattle.places.specs.Roles.{defKind, defRole}
+use Rattle.edit.specs.Record.{Slot, operand, successor, Definition}
+use Rattle.rules.specs.Table.{Table, change, change-all}
+use Rattle.rules.specs.History.{defined, same-definition}
 use Rattle.seqs.proofs.Base.{tick-yes, tick-no, tick-pos, in-head, in-tail}
 use Rattle.places.proofs.Steps.{some-inj}
 use Rattle.places.proofs.Sees.{num-inj}
-use Rattle.places.proofs.Bits.{bit, bit-true, bit-false, tabled-view}
-use Rattle.places.proofs.RuleOutside.{nameOf, same-def, fit-def, IsDef}
+use Rattle.places.proofs.Bits.{bit, bit-true, tabled-view}
+use Rattle.places.proofs.RuleOutside.{same-def, fit-def, IsDef}
 use Rattle.places.proofs.RuleUses.{def-is, def-holder}
-use Rattle.places.proofs.RuleMoves.{rehold, rehold-self, rehold-uses, rehold-twice, reheld-accept, moved-meaning}
+use Rattle.places.proofs.RuleMoves.{rehold, moved-meaning}
 
 -- the uses of a that pass the test are uses of b
 abbrev pub placed : Definition → Definition → (ℕ → Bool) → Table Definition → Table Definition

@@ -1,44 +1,28 @@
 -- The rules' other tables after a cut: orders, flags, types, by what is live after it. Assumes nothing.
-use mathlib.Core.Path.{_≡_, refl, sym, ap, ap₂, _∙_, subst, fun-ext}
-use mathlib.Core.Logic.{_≢_, by-cases, _⊎_, inl, inr, ⊎-elim}
-use mathlib.Core.Bool.{Bool, true, false, not, cond, _&&_, _||_}
-use mathlib.Core.List.{List, [], _∷_, _++_, map, map-map}
-use mathlib.Core.Option.{Option, none, some}
-use native.Mathlib.Decide.{ℕ-discrete}
+use mathlib.Core.Path.{_≡_, refl, sym, ap, _∙_, subst, fun-ext}
+use mathlib.Core.Logic.{⊎-elim}
+use mathlib.Core.Bool.{Bool, true, false, not, cond}
+use mathlib.Core.List.{List, [], _∷_, map}
 use native.Mathlib.Omega.{arith}
-use Prim.Native.Nat.{ℕ, zero, suc, _+_, _<_, _≤_}
-use lib.Dec.{eqb}
-use lib.ListN.{length}
-use Rattle.seqs.specs.Seqs.{tick, count, In, sum}
-use Rattle.places.specs.Store.{Kind, op, blk, reg, val, usg, Role, results, arguments, regions, ops, blocks, Fam, vals, regs, fam, nodeOf, holderOf, Thing, Thing-dec, Con, State, alive, Live, Link, Linked, Sound, outer, up}
+use Prim.Native.Nat.{ℕ, zero, suc, _<_}
+use Rattle.seqs.specs.Seqs.{In}
+use Rattle.places.specs.Store.{Kind, op, blk, reg, val, Role, ops, blocks, fam, nodeOf, Thing, Thing-dec, State, alive, Live, Link, Sound}
 use Rattle.places.specs.View.{Rec, num, recOf, view}
-use Rattle.places.specs.Plain.{tabled}
-use Rattle.places.specs.Hist.{opOf, blockOf, useOf, hist}
+use Rattle.places.specs.Hist.{tabled, hist}
+use Rattle.places.specs.Roles.{Unnamed}
 use Rattle.places.specs.Walk.{pick, sgn, sift, cutBy, trim}
-use Rattle.rules.specs.Table.{Table, find, find-key, is-some, any, items, keep, keep-keys, change-all, member}
-use Rattle.rules.specs.History.{Operation, Block, History, parent, live-operation, live-block, live-region, live-value}
-use Rattle.seqs.proofs.Base.{tick-yes, tick-no, tick-pos, in-head, in-tail, map-on}
-use Rattle.places.proofs.Steps.{thing-eq, listed, once}
+use Rattle.rules.specs.Table.{Table, keep, keep-keys, change-all}
+use Rattle.rules.specs.History.{History, live-operation, live-block, live-region, live-value}
+use Rattle.seqs.proofs.Base.{in-head, in-tail}
+use Rattle.places.proofs.Steps.{thing-eq, listed}
 use Rattle.places.proofs.Sees.{num-inj}
-use Rattle.places.proofs.Cut.{pick-0, pick-1, zero-or, sift-in, Closed, cut-sound, live-cut, alive-cut-0}
+use Rattle.places.proofs.Cut.{pick-0, pick-1, zero-or, Closed, cut-sound, live-cut, alive-cut-0}
 use Rattle.places.proofs.SeeCut.{map-sift, num-cut}
-use Rattle.places.proofs.DropAll.{value-roles, fam-code}
-use Rattle.places.proofs.Bits.{bit, bit-eqb, bit-true, bit-false, sgn-bit, bit-member, tabled-view, find-view, count-nums}
-use Rattle.places.proofs.Tables.{keep-tabled, change-tabled, items-tabled, bit-any, sum-some, in-mapped}
-use Rattle.places.proofs.Outside.{part-sum}
-use Rattle.places.proofs.RuleClimb.{numOpt, parent-num}
+use Rattle.places.proofs.Bits.{bit, tabled-view}
+use Rattle.places.proofs.Tables.{keep-tabled, change-tabled}
 use Rattle.places.proofs.RuleDrop.{tabled-cut}
 use Rattle.places.proofs.RuleErase.{byNumber, by-number}
-
-find-absent : {A : Type 0} (nm : ℕ → ℕ) (g : ℕ → A) (l : List ℕ) (m : ℕ) → ((q : ℕ) → In ℕ-discrete q l → nm q ≢ m) → find (map (λ q. (nm q, g q)) l) m ≡ none
-unfolding find
-find-absent nm g [] m h = refl
-find-absent nm g (q ∷ l) m h = ap {B = Option _} (λ (b : Bool). cond b (some (g q)) (find (map (λ q. (nm q, g q)) l) m)) (bit-false (eqb (nm q) m) (bit-eqb (nm q) m ∙ tick-no (ℕ-discrete (nm q) m) (h q (in-head ℕ-discrete q l)))) ∙ find-absent nm g l m (λ r i. h r (in-tail ℕ-discrete r q l i))
-
-key-absent : {A : Type 0} (nm : ℕ → ℕ) (g : ℕ → A) (test : A → Bool) (l : List ℕ) → ((q : ℕ) → In ℕ-discrete q l → test (g q) ≡ false) → find-key test (map (λ q. (nm q, g q)) l) ≡ none
-unfolding find-key
-key-absent nm g test [] h = refl
-key-absent nm g test (q ∷ l) h = ap {B = Option ℕ} (λ (b : Bool). cond b (some (nm q)) (find-key test (map (λ q. (nm q, g q)) l))) (h q (in-head ℕ-discrete q l)) ∙ key-absent nm g test l (λ r i. h r (in-tail ℕ-discrete r q l i))
+use Rattle.places.proofs.RuleNames.{operation-live, operation-dead, block-live, block-dead, region-live, region-dead, value-live, value-dead}
 
 keep-on : (t : ℕ → Bool) (p : Thing → ℕ) (nm : Thing → ℕ) (l : List Thing) → ((y : Thing) → In Thing-dec y l → sgn (p y) ≡ bit (not (t (nm y)))) → keep t (map nm l) ≡ map nm (sift p l)
 unfolding keep pick
@@ -73,41 +57,30 @@ module _ {P : State} (S : Sound P) (p : Thing → ℕ) (closed : Closed p P) (e 
   live-in : (y : Thing) → p y ≡ 0 → Live P y → Live Q y
   live-in y z l = omega (arith, l, alive-cut-0 p P y z)
 
-  -- what is live afterwards has its number still, and no other has one that ended
-  ended-number : (x y : Thing) → x .0 ≡ y .0 → Live P x → 0 < p x → Live Q y → num Q y ≢ num P x
-  ended-number x y j lx h ly q = let c : (p y ≡ 0) × Live P y = live-cut p P y ly in
-      absurd (omega (arith, h, c .0, ap p (num-inj P (S .linked .tabs) x y j lx (c .1) (sym q ∙ num-is y (c .0)))))
+  -- no other thing has the number of one that ended
+  unnamed : (j : Kind) (q : ℕ) → Live P (j, q) → 0 < p (j, q) → Unnamed Q j (num P (j, q))
+  unnamed j q l h r lr m = let c : (p (j, r) ≡ 0) × Live P (j, r) = live-cut p P (j, r) lr in
+      absurd (omega (arith, h, c .0, ap p (num-inj P (S .linked .tabs) (j, q) (j, r) refl l (c .1) (sym m ∙ num-is (j, r) (c .0)))))
 
-  is-found : {A : Type 0} (j : Kind) (f : Rec → A) (q : ℕ) → Live P (j, q) → sgn (p (j, q)) ≡ bit (not (is-some (find (tabled f (view Q .things j)) (num P (j, q)))))
-  unfolding is-some alive
-  is-found j f q l =
+  -- a test that tells which numbers of the kind are live after the cut
+  by-test : (j : Kind) (live : ℕ → Bool) → ((q : ℕ) → Live Q (j, q) → live (num Q (j, q)) ≡ true) → ((m : ℕ) → Unnamed Q j m → live m ≡ false) → (q : ℕ) → Live P (j, q) → sgn (p (j, q)) ≡ bit (not (live (num P (j, q))))
+  by-test j live on off q l =
       ⊎-elim
-      (λ z. pick-0 (p (j, q)) 0 1 z ∙ sym (ap (λ (o : Option _). bit (not (is-some o))) (ap (find (tabled f (view Q .things j))) (sym (num-is (j, q) z)) ∙ find-view (T .linked) j f q (live-in (j, q) z l))))
-      (λ z. pick-1 (p (j, q)) 0 1 z ∙ sym (ap (λ (o : Option _). bit (not (is-some o))) (ap (λ (t : Table _). find t (num P (j, q))) (tabled-view Q j f) ∙ find-absent (λ r. num Q (j, r)) (λ r. f (recOf Q (j, r))) (Q .tab j .order) (num P (j, q)) (λ r i. ended-number (j, q) (j, r) refl l z i))))
+      (λ z. pick-0 (p (j, q)) 0 1 z ∙ sym (ap (λ (b : Bool). bit (not b)) (ap live (sym (num-is (j, q) z)) ∙ on q (live-in (j, q) z l))))
+      (λ z. pick-1 (p (j, q)) 0 1 z ∙ sym (ap (λ (b : Bool). bit (not b)) (off (num P (j, q)) (unnamed j q l z))))
       (zero-or (p (j, q)))
 
   pub op-live : (o : ℕ) → Live P (op, o) → sgn (p (op, o)) ≡ bit (not (live-operation k (num P (op, o))))
-  unfolding live-operation hist
-  op-live o l = is-found op opOf o l
+  op-live = by-test op (live-operation k) (λ q l. operation-live T e q (num Q (op, q)) l refl) (operation-dead T e)
 
   pub blk-live : (b : ℕ) → Live P (blk, b) → sgn (p (blk, b)) ≡ bit (not (live-block k (num P (blk, b))))
-  unfolding live-block hist
-  blk-live b l = is-found blk blockOf b l
-
-  -- no list holds a number that ended
-  no-member : (x : Thing) → Live P x → 0 < p x → (y : Thing) (r : Role) → nodeOf r ≡ x .0 → member (num P x) (map (num Q) (Q .list y r)) ≡ false
-  no-member x lx h y r j = bit-false (member (num P x) (map (num Q) (Q .list y r))) (bit-member (num P x) (map (num Q) (Q .list y r)) ∙ ⊎-elim (λ z. ap sgn z ∙ pick-0 0 0 1 refl)
-      (λ z. absurd (let c : (w : Thing) × (num P x ≡ num Q w) × In Thing-dec w (Q .list y r) = in-mapped Thing-dec ℕ-discrete (num Q) (num P x) (Q .list y r) z in
-      let L : Link Q (c .0) (fam r) (r, y) = T .linked .link (c .0) (fam r) (r, y) (listed (T .linked) (c .0) y r (c .2)) in
-      ended-number x (c .0) (sym j ∙ sym (L .node)) lx h (L .live) (sym (c .1)))) (zero-or (count ℕ-discrete (num P x) (map (num Q) (Q .list y r)))))
+  blk-live = by-test blk (live-block k) (λ q l. block-live T e q (num Q (blk, q)) l refl) (block-dead T e)
 
   pub reg-live : (r : ℕ) → Live P (reg, r) → sgn (p (reg, r)) ≡ bit (not (live-region k (num P (reg, r))))
-  unfolding live-region is-some parent hist recOf up
-  reg-live r l =
-      ⊎-elim
-      (λ z. pick-0 (p (reg, r)) 0 1 z ∙ sym (ap (λ (o : Option ℕ). bit (not (is-some o))) (ap (parent k) (sym (num-is (reg, r) z)) ∙ parent-num T e r (live-in (reg, r) z l) ∙ ap (λ (o : Option Con). numOpt Q (outer o)) (T .placed (reg, r) (live-in (reg, r) z l) .1))))
-      (λ z. pick-1 (p (reg, r)) 0 1 z ∙ sym (ap (λ (o : Option ℕ). bit (not (is-some o))) (ap (find-key (λ (o : Operation). member (num P (reg, r)) (o .regions))) (tabled-view Q op opOf) ∙ key-absent (λ q. num Q (op, q)) (λ q. opOf (recOf Q (op, q))) (λ (o : Operation). member (num P (reg, r)) (o .regions)) (Q .tab op .order) (λ q _. no-member (reg, r) l z (op, q) regions refl))))
-      (zero-or (p (reg, r)))
+  reg-live = by-test reg (live-region k) (λ q l. region-live T e q (num Q (reg, q)) l refl) (region-dead T e)
+
+  pub val-live : (v : ℕ) → Live P (val, v) → sgn (p (val, v)) ≡ bit (not (live-value k (num P (val, v))))
+  val-live = by-test val (live-value k) (λ q l. value-live T e q (num Q (val, q)) l refl) (value-dead T e)
 
   -- ---- the tables
 
@@ -140,88 +113,14 @@ module _ {P : State} (S : Sound P) (p : Thing → ℕ) (closed : Closed p P) (e 
   unfolding recOf
   blocks-of-cut = orders reg blocks (live-region k) (live-block k) (λ r. r .lists blocks) (λ m x. refl) (λ x. refl) reg-live blk-live
 
-  pub flags-cut : tabled (λ r. r .tag) (view Q .things op) ≡ keep-keys (live-operation k) (tabled (λ r. r .tag) (view P .things op))
+  tags-cut : (j : Kind) (live : ℕ → Bool) → ((q : ℕ) → Live P (j, q) → sgn (p (j, q)) ≡ bit (not (live (num P (j, q))))) → tabled (λ r. r .tag) (view Q .things j) ≡ keep-keys live (tabled (λ r. r .tag) (view P .things j))
   unfolding alive
-  flags-cut =
-      tabled-cut (S .linked) p closed n same op (λ r. r .tag) (λ o. recOf P (op, o) .tag) (λ o l z. refl)
-      ∙ sym (ap (keep-keys (live-operation k)) (tabled-view P op (λ r. r .tag)) ∙ keep-tabled (λ o. num P (op, o)) (λ o. recOf P (op, o) .tag) (live-operation k) (λ o. p (op, o)) (P .tab op .order) op-live)
+  tags-cut j live says =
+      tabled-cut (S .linked) p closed n same j (λ r. r .tag) (λ q. recOf P (j, q) .tag) (λ q l z. refl)
+      ∙ sym (ap (keep-keys live) (tabled-view P j (λ r. r .tag)) ∙ keep-tabled (λ q. num P (j, q)) (λ q. recOf P (j, q) .tag) live (λ q. p (j, q)) (P .tab j .order) says)
 
-  -- ---- types, by the values that are live after it
-
-  any-true : {A : Type 0} (f : A → Bool) (g : ℕ → A) (l : List ℕ) (q : ℕ) → In ℕ-discrete q l → f (g q) ≡ true → any f (map g l) ≡ true
-  unfolding any
-  any-true f g [] q i h = absurd (omega arith)
-  any-true f g (r ∷ l) q i h = by-cases (ℕ-discrete q r) (λ m. ap (λ (b : Bool). b || any f (map g l)) (ap (λ (s : ℕ). f (g s)) (sym m) ∙ h)) (λ m. or-true (f (g r)) (any-true f g l q (omega (arith, i, tick-no (ℕ-discrete q r) m)) h))
-    where
-      or-true : (a : Bool) {b : Bool} → b ≡ true → (a || b) ≡ true
-      or-true true h = refl
-      or-true false h = h
-
-  any-false : {A : Type 0} (f : A → Bool) (g : ℕ → A) (l : List ℕ) → ((q : ℕ) → f (g q) ≡ false) → any f (map g l) ≡ false
-  unfolding any
-  any-false f g [] h = refl
-  any-false f g (r ∷ l) h = ap (λ (b : Bool). b || any f (map g l)) (h r) ∙ any-false f g l h
-
-  or-right : (a b : Bool) → b ≡ true → (a || b) ≡ true
-  or-right true b h = refl
-  or-right false b h = h
-
-  in-list : (y : Thing) (r : Role) (x : Thing) → Live Q x → In Thing-dec x (Q .list y r) → member (num Q x) (map (num Q) (Q .list y r)) ≡ true
-  in-list y r x lx i = bit-true (member (num Q x) (map (num Q) (Q .list y r))) (omega (arith, bit-member (num Q x) (map (num Q) (Q .list y r)), pick-1 {A = ℕ} (count ℕ-discrete (num Q x) (map (num Q) (Q .list y r))) 0 1 (omega (arith, i, count-nums (T .linked) x (Q .list y r) lx (λ z j. (kind z j, live z j))))))
-    where
-      live : (z : Thing) → In Thing-dec z (Q .list y r) → Live Q z
-      live z j = T .linked .link z (fam r) (r, y) (listed (T .linked) z y r j) .live
-
-      kind : (z : Thing) → In Thing-dec z (Q .list y r) → z .0 ≡ x .0
-      kind z j = T .linked .link z (fam r) (r, y) (listed (T .linked) z y r j) .node ∙ sym (T .linked .link x (fam r) (r, y) (listed (T .linked) x y r i) .node)
-
-  results? : ℕ → Bool
-  results? m = any (λ (o : Operation). member m (o .results)) (map (λ q. opOf (recOf Q (op, q))) (Q .tab op .order))
-
-  arguments? : ℕ → Bool
-  arguments? m = any (λ (b : Block). member m (b .arguments)) (map (λ q. blockOf (recOf Q (blk, q))) (Q .tab blk .order))
-
-  live-is : (m : ℕ) → live-value k m ≡ (results? m || arguments? m)
-  unfolding live-value hist results? arguments?
-  live-is m =
-      ap₂ _||_
-      (ap (any (λ (o : Operation). member m (o .results))) (ap items (tabled-view Q op opOf) ∙ items-tabled (λ q. num Q (op, q)) (λ q. opOf (recOf Q (op, q))) (Q .tab op .order)))
-      (ap (any (λ (b : Block). member m (b .arguments))) (ap items (tabled-view Q blk blockOf) ∙ items-tabled (λ q. num Q (blk, q)) (λ q. blockOf (recOf Q (blk, q))) (Q .tab blk .order)))
-
-  value-found : (v : ℕ) → Live Q (val, v) → (results? (num Q (val, v)) || arguments? (num Q (val, v))) ≡ true
-  unfolding results? arguments? recOf fam-code alive
-  value-found v l = go (T .placed (val, v) l .0) (T .placed (val, v) l .1)
-    where
-      at : (r : Role) (y : Thing) → Q .own (val, v) (fam r) ≡ some (r, y) → member (num Q (val, v)) (map (num Q) (Q .list y r)) ≡ true
-      at r y m = in-list y r (val, v) l (omega (arith, once (T .linked) (val, v) (fam r) (r, y) m))
-
-      go : (c : Con) → Q .own (val, v) vals ≡ some c → (results? (num Q (val, v)) || arguments? (num Q (val, v))) ≡ true
-      go c m =
-          let L : Link Q (val, v) vals c = T .linked .link (val, v) vals c m in
-          ⊎-elim
-          (λ h. let y : c .1 ≡ (op, c .1 .1) = thing-eq (c .1) (op, c .1 .1) (L .holder ∙ ap holderOf h) refl in
-          let w : Q .own (val, v) vals ≡ some (results, (op, c .1 .1)) = m ∙ ap some (λ i. (h i, y i)) in
-          ap (λ (b : Bool). b || arguments? (num Q (val, v))) (any-true (λ (o : Operation). member (num Q (val, v)) (o .results)) (λ q. opOf (recOf Q (op, q))) (Q .tab op .order) (c .1 .1) (subst (λ (a : Thing). Live Q a) y (L .home)) (at results (op, c .1 .1) w)))
-          (λ h. let y : c .1 ≡ (blk, c .1 .1) = thing-eq (c .1) (blk, c .1 .1) (L .holder ∙ ap holderOf h) refl in
-          let w : Q .own (val, v) vals ≡ some (arguments, (blk, c .1 .1)) = m ∙ ap some (λ i. (h i, y i)) in
-          or-right (results? (num Q (val, v))) (arguments? (num Q (val, v))) (any-true (λ (b : Block). member (num Q (val, v)) (b .arguments)) (λ q. blockOf (recOf Q (blk, q))) (Q .tab blk .order) (c .1 .1) (subst (λ (a : Thing). Live Q a) y (L .home)) (at arguments (blk, c .1 .1) w)))
-          (value-roles (c .0) (ap fam-code (L .family)))
-
-  value-lost : (v : ℕ) → Live P (val, v) → 0 < p (val, v) → (results? (num P (val, v)) || arguments? (num P (val, v))) ≡ false
-  unfolding results? arguments? recOf
-  value-lost v l h = ap₂ _||_
-      (any-false (λ (o : Operation). member (num P (val, v)) (o .results)) (λ q. opOf (recOf Q (op, q))) (Q .tab op .order) (λ q. no-member (val, v) l h (op, q) results refl))
-      (any-false (λ (b : Block). member (num P (val, v)) (b .arguments)) (λ q. blockOf (recOf Q (blk, q))) (Q .tab blk .order) (λ q. no-member (val, v) l h (blk, q) arguments refl))
-
-  pub val-live : (v : ℕ) → Live P (val, v) → sgn (p (val, v)) ≡ bit (not (live-value k (num P (val, v))))
-  val-live v l =
-      ⊎-elim
-      (λ z. pick-0 (p (val, v)) 0 1 z ∙ sym (ap (λ (b : Bool). bit (not b)) (live-is (num P (val, v)) ∙ ap (λ (m : ℕ). results? m || arguments? m) (sym (num-is (val, v) z)) ∙ value-found v (live-in (val, v) z l))))
-      (λ z. pick-1 (p (val, v)) 0 1 z ∙ sym (ap (λ (b : Bool). bit (not b)) (live-is (num P (val, v)) ∙ value-lost v l z)))
-      (zero-or (p (val, v)))
+  pub flags-cut : tabled (λ r. r .tag) (view Q .things op) ≡ keep-keys (live-operation k) (tabled (λ r. r .tag) (view P .things op))
+  flags-cut = tags-cut op (live-operation k) op-live
 
   pub types-cut : tabled (λ r. r .tag) (view Q .things val) ≡ keep-keys (live-value k) (tabled (λ r. r .tag) (view P .things val))
-  unfolding alive
-  types-cut =
-      tabled-cut (S .linked) p closed n same val (λ r. r .tag) (λ v. recOf P (val, v) .tag) (λ v l z. refl)
-      ∙ sym (ap (keep-keys (live-value k)) (tabled-view P val (λ r. r .tag)) ∙ keep-tabled (λ v. num P (val, v)) (λ v. recOf P (val, v) .tag) (live-value k) (λ v. p (val, v)) (P .tab val .order) val-live)
+  types-cut = tags-cut val (live-value k) val-live

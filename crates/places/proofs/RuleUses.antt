@@ -1,38 +1,28 @@
 -- A use is born, ends, or moves: by places as the rules say it, for operands and successors at once. Assumes nothing.
-use mathlib.Core.Path.{_≡_, refl, sym, ap, ap₂, _∙_, subst}
-use mathlib.Core.Logic.{_≢_, ite, if-pos, if-neg, by-cases}
-use mathlib.Core.Bool.{Bool, true, false, not, cond, _||_}
-use mathlib.Core.List.{List, [], _∷_, _++_, map, append-nil}
-use mathlib.Core.Option.{Option, none, some}
+use mathlib.Core.Path.{_≡_, refl, sym, ap, ap₂, _∙_}
+use mathlib.Core.Logic.{ite, if-pos}
+use mathlib.Core.List.{List, [], _∷_, _++_, map}
+use mathlib.Core.Option.{some}
 use native.Mathlib.Decide.{ℕ-discrete}
 use native.Mathlib.Omega.{arith}
-use Prim.Native.Nat.{ℕ, zero, suc, _+_, _-_, _<_, _≤_}
-use lib.Dec.{eqb}
-use lib.ListN.{length, length-map, length-append, getD, set}
-use borrow.Author.Tests.{ne-eqb}
-use Rattle.seqs.specs.Seqs.{upd, insertAt, tick, count, In, without, withoutBy}
-use Rattle.places.specs.Store.{Kind, Kind-dec, Role-dec, Fam-dec, op, blk, reg, val, usg, Role, operands, successors, valueUses, blockUses, Fam, slots, useSets, fam, holderOf, Thing, Thing-dec, Con, Table, State, alive, Live, Link, Fit, UseHeld, Sound, birth, born, end, gone, enter, leave, relink, setOwn, setList}
-use Rattle.places.specs.View.{Rec, Names, num, named, namedC, recOf, view, amendIn, amend, changeList, setHome, bare, nBirth, nEnd, nEnter, nHold}
-use Rattle.places.specs.Edits.{birthUse, nBirthUse, endUse, nEndUse, moveUse}
-use Rattle.places.specs.Plain.{defBy, tabled}
-use Rattle.places.specs.Hist.{opOf, blockOf, useOf, bornOf, hist, ordersOf, ruleState, meaning}
-use Rattle.edit.specs.Record.{Slot, operand, successor, Edit, push-use, insert-use, replace-use, remove-use, pop-use, move-use}
-use Rattle.rules.specs.Table.{find, change, keep-keys, member, insert-at, remove-at, number}
-use Rattle.rules.specs.History.{Five, zeros, plus, Operation, History, births, bear, carry-out, remember, uses-in, slot-of, defined, change-slot, with-operations, with-uses, end-uses, add-use, take-use}
-use Rattle.rules.specs.Orders.{Orders, order, reorder}
+use Prim.Native.Nat.{ℕ, zero, suc, _+_, _<_}
+use lib.ListN.{length, length-map, length-append}
+use Rattle.seqs.specs.Seqs.{upd, insertAt}
+use Rattle.places.specs.Store.{Kind, Kind-dec, op, blk, reg, val, usg, operands, successors, Fam, slots, useSets, fam, holderOf, Thing, Table, State, alive, Live, Fit, Sound, birth, born, enter, relink, setOwn, setList}
+use Rattle.places.specs.View.{Rec, Names, num, recOf, view, amendIn, amend, changeList, setHome, bare, nBirth, nEnter, nHold}
+use Rattle.places.specs.Edits.{birthUse, nBirthUse}
+use Rattle.places.specs.Hist.{defBy, tabled, opOf, blockOf, useOf, bornOf, hist, ordersOf, ruleState, meaning}
+use Rattle.edit.specs.Record.{Slot, operand, successor, Edit, push-use, insert-use}
+use Rattle.rules.specs.Table.{change, insert-at}
+use Rattle.rules.specs.History.{plus, Operation, History, births, bear, carry-out, remember, uses-in, defined, change-slot, add-use}
+use Rattle.rules.specs.Orders.{order, reorder}
 use Rattle.rules.specs.State.{new-flags, new-types, accept}
-use Rattle.seqs.proofs.Base.{upd-image, upd-self, upd-same, tick-yes, tick-no, map-append, length-falls}
-use Rattle.places.proofs.Steps.{once}
-use Rattle.places.proofs.Sees.{num-inj}
-use Rattle.places.proofs.Plains.{next-new}
+use Rattle.seqs.proofs.Base.{upd-image, upd-self, map-append}
+use Rattle.places.proofs.Entries.{next-new, tabled-amend, tabled-same, change-there}
 use Rattle.places.proofs.BirthUse.{birthUse-sound, birthUse-view}
-use Rattle.places.proofs.EndUse.{endUse-sound, endUse-view}
-use Rattle.places.proofs.MoveUse.{moveUse-sound, moveUse-view}
-use Rattle.places.proofs.Bits.{bit, bit-eqb, tabled-view}
 use Rattle.places.specs.Roles.{slotRole, defKind, defRole}
-use Rattle.places.proofs.RuleNames.{slot-list}
 use Rattle.places.proofs.RuleRefusals.{oneOf}
-use Rattle.places.proofs.RuleAccept.{Quiet, accept-quiet, lives-born, endedOf, tabled-amend, tabled-same, change-agree}
+use Rattle.places.proofs.RuleAccept.{Quiet, accept-quiet, endedOf}
 
 pub slot-fits : (sl : Slot) → Fit (slotRole sl) (defRole sl)
 slot-fits operand = Fit.operand
@@ -146,12 +136,8 @@ module _ {P : State} (S : Sound P) (sl : Slot) (o : ℕ) (lo : Live P (op, o)) w
   uses-there = elim sl [ operand ↦ refl | successor ↦ refl ]
 
   pub slot-change : (a b : List ℕ → List ℕ) → a uses ≡ b uses → change (num P (op, o)) (change-slot sl a) (tabled opOf (view P .things op)) ≡ change (num P (op, o)) (change-slot sl b) (tabled opOf (view P .things op))
-  unfolding alive
   slot-change a b h =
-      ap (change (num P (op, o)) (change-slot sl a)) (tabled-view P op opOf)
-      ∙ change-agree (λ q. num P (op, q)) (λ q. opOf (recOf P (op, q))) (change-slot sl a) (change-slot sl b) o (P .tab op .order) (λ q i e. ap (λ (x : Thing). x .1) (num-inj P (S .linked .tabs) (op, q) (op, o) refl i lo e))
-      (slot-agree sl (opOf (recOf P (op, o))) a b (ap a uses-there ∙ h ∙ ap b (sym uses-there)))
-      ∙ ap (change (num P (op, o)) (change-slot sl b)) (sym (tabled-view P op opOf))
+      change-there (S .linked) op opOf o (change-slot sl a) (change-slot sl b) lo (slot-agree sl (opOf (recOf P (op, o))) a b (ap a uses-there ∙ h ∙ ap b (sym uses-there)))
 
 -- ---- a use is born
 

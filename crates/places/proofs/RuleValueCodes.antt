@@ -1,10 +1,9 @@
 -- The refusals and answers of the edits on results and arguments, by places. Assumes nothing.
 use mathlib.Core.Path.{_≡_, refl, sym, ap, ap₂, _∙_}
 use mathlib.Core.Logic.{ite}
-use mathlib.Core.Bool.{Bool, true, false}
 use mathlib.Core.List.{List, [], _∷_, map}
 use native.Mathlib.Decide.{decLt}
-use Prim.Native.Nat.{ℕ, zero, suc, _-_, _<_}
+use Prim.Native.Nat.{ℕ, suc, _-_}
 use lib.Dec.{eqb, leb, ltb}
 use lib.ListN.{length, getD}
 use Rattle.places.specs.Store.{val, valueUses, State, Live, Sound}
@@ -13,7 +12,7 @@ use Rattle.places.specs.Roles.{Unnamed, missingCode, valueRole, memberKi
 use Rattle.places.specs.Hist.{hist, ruleState, meaning}
 use Rattle.edit.specs.Record.{Member, operation, block, of-value, Edit, push-value, insert-value, remove-value, pop-value}
 use Rattle.edit.specs.Answer.{found}
-use Rattle.rules.specs.History.{History, births, values-at, uses-of}
+use Rattle.rules.specs.History.{History, births, uses-of}
 use Rattle.rules.specs.Refusal.{Name, member-named, named, check, places, values-length, value-used, from-state, refusal-of}
 use Rattle.rules.specs.Step.{answer}
 use Rattle.places.proofs.RuleOutside.{IsDef}

@@ -1,36 +1,37 @@
 -- A value is born into the results of an operation or the arguments of a block, or ends there: by places as the rules say it.
 -- Assumes nothing.
 use mathlib.Core.Path.{_≡_, refl, sym, ap, ap₂, _∙_, subst}
-use mathlib.Core.Logic.{_≢_, ite, by-cases}
+use mathlib.Core.Logic.{_≢_}
 use mathlib.Core.Bool.{Bool, true, false, not, cond, _||_}
 use mathlib.Core.List.{List, [], _∷_, _++_, map, append-nil}
-use mathlib.Core.Option.{Option, none, some}
+use mathlib.Core.Option.{some}
 use native.Mathlib.Decide.{ℕ-discrete}
 use native.Mathlib.Omega.{arith}
-use Prim.Native.Nat.{ℕ, zero, suc, _+_, _-_, _<_, _≤_}
+use Prim.Native.Nat.{ℕ, suc, _+_, _-_, _<_}
 use lib.Dec.{eqb}
 use lib.ListN.{length, length-map, getD}
 use borrow.Author.Tests.{eqb-true}
-use Rattle.seqs.specs.Seqs.{upd, insertAt, tick, count, In, without}
-use Rattle.places.specs.Store.{Kind, op, blk, reg, val, usg, Role, operands, successors, valueUses, blockUses, results, arguments, regions, ops, blocks, Fam, vals, fam, nodeOf, holderOf, Thing, Thing-dec, Con, State, alive, Live, Link, Linked, Sound, birth, end, enter, leave, relink, setOwn, setList}
-use Rattle.places.specs.View.{Rec, Names, num, recOf, view, amendIn, amend, changeList, setHome, bare, nBirth, nEnd, nEnter}
-use Rattle.places.specs.Plain.{tabled}
-use Rattle.places.specs.Hist.{opOf, blockOf, useOf, bornOf, hist, ordersOf, ruleState, meaning}
+use Rattle.seqs.specs.Seqs.{upd, insertAt, count, In, without}
+use Rattle.places.specs.Store.{Kind, op, blk, reg, val, usg, Role, operands, successors, valueUses, blockUses, results, arguments, regions, ops, blocks, vals, fam, nodeOf, holderOf, Thing, Thing-dec, Con, State, alive, Live, Link, Linked, Sound, birth, end, enter, leave, relink, setOwn, setList}
+use Rattle.places.specs.View.{Names, num, recOf, view, amend, changeList, setHome, bare, nBirth, nEnd, nEnter}
+use Rattle.places.specs.Hist.{tabled, opOf, blockOf, useOf, bornOf, hist, ordersOf, ruleState, meaning}
 use Rattle.places.specs.Roles.{valueRole, memberKind}
 use Rattle.edit.specs.Record.{Member, operation, block, Edit, push-value, insert-value, remove-value, pop-value}
-use Rattle.rules.specs.Table.{Table, keep-keys, number, change, member, insert-at, remove-at}
-use Rattle.rules.specs.History.{Five, zeros, plus, History, births, bear, carry-out, remember, live-operation, live-value, change-results, change-arguments, change-values, with-operations, with-blocks}
+use Rattle.rules.specs.Table.{Table, keep-keys, number, member, insert-at, remove-at}
+use Rattle.rules.specs.History.{zeros, plus, History, births, bear, carry-out, remember, live-operation, live-value, change-results, change-arguments, change-values, with-operations, with-blocks}
 use Rattle.rules.specs.Orders.{Orders, order, reorder}
 use Rattle.rules.specs.State.{new-flags, new-types, accept}
 use Rattle.seqs.proofs.Base.{map-append}
-use Rattle.places.proofs.Steps.{Fresh, Bare, some-inj, some-none, once, listed, leave-ok, bare-of, own-left, list-leave-other, alive-ended, alive-end, alive-leave, cap-end}
+use Rattle.places.specs.May.{Fresh, Bare}
+use Rattle.places.proofs.Steps.{some-none, once, listed, leave-ok, bare-of, own-left, list-leave-other, alive-ended, alive-end, alive-leave, cap-end}
 use Rattle.places.proofs.Sees.{num-inj, num-end}
 use Rattle.places.proofs.Extra.{in-at, removeAt-without}
 use Rattle.places.proofs.Whole.{bear-in-sound, bear-in-view, finish-in-sound, finish-in-view}
-use Rattle.places.proofs.Bits.{bit, count-nums, tabled-view}
+use Rattle.places.proofs.Bits.{bit, count-nums}
 use Rattle.places.proofs.RuleNames.{value-dead}
 use Rattle.places.proofs.RuleRefusals.{oneOf}
-use Rattle.places.proofs.RuleAccept.{flags-kept, types-kept, Quiet, accept-is, endedOf, tabled-amend, tabled-same, change-agree}
+use Rattle.places.proofs.Entries.{tabled-amend, tabled-same, change-there, plus-zeros}
+use Rattle.places.proofs.RuleAccept.{flags-kept, types-kept, Quiet, accept-is, endedOf}
 use Rattle.places.proofs.RuleUses.{insert-is, insert-last, cap-birth}
 use Rattle.places.proofs.RuleEnds.{remove-is, getD-map, tabled-drop}
 
@@ -80,11 +81,8 @@ module _ (N : Names) (n u : ℕ) where
   goneIn w = nEnd val u (amend (memberKind w) n (changeList (valueRole w) (without ℕ-discrete u)) N)
 
   none-born : (w : Member) → bornOf (goneIn w) ≡ plus (bornOf N) zeros
-  unfolding nEnd amend plus zeros
-  none-born w = λ k. record { operations = zero-more (N .next op) k; blocks = zero-more (N .next blk) k; regions = zero-more (N .next reg) k; values = zero-more (N .next val) k; uses = zero-more (N .next usg) k }
-    where
-      zero-more : (a : ℕ) → a ≡ a + 0
-      zero-more a = omega arith
+  unfolding nEnd amend
+  none-born w = sym (plus-zeros (bornOf N))
 
   gone-history : (w : Member) (e : ℕ) → hist e (goneIn w) ≡ bear (plus (bornOf N) zeros) (change-values w n (without ℕ-discrete u) (hist e N))
   unfolding hist bear change-values change-results change-arguments with-operations with-blocks nEnd amend upd
@@ -112,19 +110,14 @@ module _ {P : State} (S : Sound P) (o e : ℕ) where
   -- two changes that agree on the list that is there
   pub values-change : (w : Member) → Live P (memberKind w, o) → (a b : List ℕ → List ℕ) → a (map (num P) (P .list (memberKind w, o) (valueRole w))) ≡ b (map (num P) (P .list (memberKind w, o) (valueRole w)))
       → change-values w (num P (memberKind w, o)) a (hist e (view P)) ≡ change-values w (num P (memberKind w, o)) b (hist e (view P))
-  unfolding change-values change-results change-arguments hist alive recOf
+  unfolding change-values change-results change-arguments hist recOf
   values-change operation lo a b h =
       ap (with-operations (hist e (view P)))
-      (ap (change (num P (op, o)) (change-results a)) (tabled-view P op opOf)
-      ∙ change-agree (λ q. num P (op, q)) (λ q. opOf (recOf P (op, q))) (change-results a) (change-results b) o (P .tab op .order) (λ q j m. ap (λ (x : Thing). x .1) (num-inj P (S .linked .tabs) (op, q) (op, o) refl j lo m))
-      (λ k. record { results = h k; operands = opOf (recOf P (op, o)) .operands; successors = opOf (recOf P (op, o)) .successors; regions = opOf (recOf P (op, o)) .regions; block = opOf (recOf P (op, o)) .block })
-      ∙ ap (change (num P (op, o)) (change-results b)) (sym (tabled-view P op opOf)))
+      (change-there (S .linked) op opOf o (change-results a) (change-results b) lo
+      (λ k. record { results = h k; operands = opOf (recOf P (op, o)) .operands; successors = opOf (recOf P (op, o)) .successors; regions = opOf (recOf P (op, o)) .regions; block = opOf (recOf P (op, o)) .block }))
   values-change block lo a b h =
       ap (with-blocks (hist e (view P)))
-      (ap (change (num P (blk, o)) (change-arguments a)) (tabled-view P blk blockOf)
-      ∙ change-agree (λ q. num P (blk, q)) (λ q. blockOf (recOf P (blk, q))) (change-arguments a) (change-arguments b) o (P .tab blk .order) (λ q j m. ap (λ (x : Thing). x .1) (num-inj P (S .linked .tabs) (blk, q) (blk, o) refl j lo m))
-      (λ k. record { arguments = h k; region = blockOf (recOf P (blk, o)) .region })
-      ∙ ap (change (num P (blk, o)) (change-arguments b)) (sym (tabled-view P blk blockOf)))
+      (change-there (S .linked) blk blockOf o (change-arguments a) (change-arguments b) lo (λ k. record { arguments = h k; region = blockOf (recOf P (blk, o)) .region }))
 
 -- ---- a value is born
 

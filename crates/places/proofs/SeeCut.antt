@@ -1,21 +1,18 @@
 -- A cut by birth numbers. Assumes nothing.
-use mathlib.Core.Path.{_≡_, refl, sym, ap, ap₂, _∙_, subst, fun-ext}
-use mathlib.Core.Logic.{_≢_, by-cases, _⊎_, inl, inr, ⊎-elim}
+use mathlib.Core.Path.{_≡_, refl, sym, ap, _∙_}
+use mathlib.Core.Logic.{⊎-elim}
 use mathlib.Core.HLevel.{Discrete}
-use mathlib.Core.List.{List, [], _∷_, _++_, map, map-map}
+use mathlib.Core.List.{List, [], _∷_, map}
 use mathlib.Core.Option.{Option, none, some}
-use native.Mathlib.Decide.{ℕ-discrete}
 use native.Mathlib.Omega.{arith}
-use Prim.Native.Nat.{ℕ, zero, suc, _+_, _<_, _≤_}
-use lib.ListN.{length}
-use Rattle.seqs.specs.Seqs.{tick, count, In, sum}
-use Rattle.places.specs.Store.{Kind, Role, operands, successors, valueUses, blockUses, results, arguments, regions, ops, blocks, Fam, fam, nodeOf, Thing, Thing-dec, Con, Table, State, alive, Live, Link, Linked}
-use Rattle.places.specs.View.{Rec, Names, shown, num, homeBy, recOf, view}
-use Rattle.places.specs.Walk.{pick, sgn, sift, cutBy, trim, nCut}
+use Prim.Native.Nat.{ℕ, zero, suc}
+use Rattle.seqs.specs.Seqs.{In}
+use Rattle.places.specs.Store.{Kind, Role, operands, successors, valueUses, blockUses, results, arguments, regions, ops, blocks, Fam, fam, nodeOf, Thing, Thing-dec, Con, State, Live, Link, Linked}
+use Rattle.places.specs.View.{shown, num, homeBy, recOf}
+use Rattle.places.specs.Walk.{pick, sgn, sift, cutBy, trim}
 use Rattle.seqs.proofs.Base.{in-head, in-tail, map-on}
-use Rattle.places.proofs.Steps.{some-inj, some-none, listed}
-use Rattle.places.proofs.Sees.{names-eq}
-use Rattle.places.proofs.Cut.{pick-0, pick-1, zero-or, sift-in, sift-all, sift-on, Closed, own-cut-0}
+use Rattle.places.proofs.Steps.{listed}
+use Rattle.places.proofs.Cut.{pick-0, zero-or, sift-in, Closed, own-cut-0}
 
 -- a map of what is kept is what is kept of a map
 pub map-sift : {A : Type 0} {B : Type 0} (d : Discrete A) (f : A → B) (p : A → ℕ) (q : B → ℕ) (l : List A) → ((x : A) → In d x l → sgn (q (f x)) ≡ sgn (p x)) → map f (sift p l) ≡ sift q (map f l)
@@ -56,14 +53,3 @@ module _ {P : State} (S : Linked P) (p : Thing → ℕ) (closed : Closed p P) (n
   pub rec-cut : (x : Thing) → p x ≡ 0 → recOf Q x ≡ trim n (recOf P x)
   unfolding recOf cutBy
   rec-cut x e = λ i. record { num = num-cut x e i; tag = pick-0 (p x) (P .tag x) 0 e i; lists = λ r. (ap (shown r) (lists-cut x r) ∙ shown-sift r (n (nodeOf r)) (map (num P) (P .list x r))) i; homes = λ f. homes-cut x e f i }
-
-  things-cut : (k : Kind) → map (λ q. recOf Q (k, q)) (Q .tab k .order) ≡ map (trim n) (sift (λ e. n k (e .num)) (map (λ q. recOf P (k, q)) (P .tab k .order)))
-  unfolding cutBy recOf alive
-  things-cut k =
-      map-on ℕ-discrete (λ q. recOf Q (k, q)) (λ q. trim n (recOf P (k, q))) (sift (λ q. p (k, q)) (P .tab k .order)) (λ q i. rec-cut (k, q) (sift-in ℕ-discrete (λ q. p (k, q)) q (P .tab k .order) i .0))
-      ∙ sym (map-map (trim n) (λ q. recOf P (k, q)) (sift (λ q. p (k, q)) (P .tab k .order)))
-      ∙ ap (map (trim n)) (map-sift ℕ-discrete (λ q. recOf P (k, q)) (λ q. p (k, q)) (λ e. n k (e .num)) (P .tab k .order) (λ q i. same (k, q) i))
-
-  pub view-cut : view Q ≡ nCut n (view P)
-  unfolding view nCut cutBy
-  view-cut = names-eq (view Q) (nCut n (view P)) (λ k. refl) things-cut

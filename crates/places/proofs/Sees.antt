@@ -1,17 +1,17 @@
 -- What each step is by birth numbers. Assumes nothing.
-use mathlib.Core.Path.{_≡_, refl, sym, ap, ap₂, _∙_, subst, fun-ext}
-use mathlib.Core.Logic.{_≢_, _↔_, ite, if-pos, if-neg, by-cases, _⊎_, inl, inr, ⊎-elim}
-use mathlib.Core.HLevel.{Discrete}
+use mathlib.Core.Path.{_≡_, refl, sym, ap, ap₂, _∙_, fun-ext}
+use mathlib.Core.Logic.{_≢_, _↔_, ite, if-pos, if-neg, by-cases}
 use mathlib.Core.List.{List, [], _∷_, _++_, map, map-map}
 use mathlib.Core.Option.{Option, none, some}
 use native.Mathlib.Decide.{ℕ-discrete}
 use native.Mathlib.Omega.{arith}
-use Prim.Native.Nat.{ℕ, zero, suc, _+_, _<_, _≤_}
-use Rattle.seqs.specs.Seqs.{upd, tick, insertAt, count, withoutBy, without, In, Rises}
-use Rattle.places.specs.Store.{Kind, Role, operands, successors, valueUses, blockUses, results, arguments, regions, ops, blocks, Fam, Kind-dec, Role-dec, Fam-dec, fam, Thing, Thing-dec, Con, Con-dec, Table, State, alive, Live, Tab, owns, Link, Linked, born, gone, birth, end, setList, setOwn, relink, enter, leave}
-use Rattle.places.specs.View.{Rec, Names, shown, num, named, namedC, homeBy, recBy, recOf, view, amendIn, amend, changeList, setHome, bare, nBirth, nEnd, nEnter, nLeave, nHold}
-use Rattle.seqs.proofs.Base.{count-gone, upd-upd, map-insertAt, upd-at, upd-same, upd-other, upd-image, upd-self, map-on, map-append, map-withoutBy, withoutBy-none, rises-inj}
-use Rattle.places.proofs.Steps.{CanEnter, node-other, home-other, listed, dead-bare, place-differs, Fresh, Bare, alive-birth, thing-eq, some-none}
+use Prim.Native.Nat.{ℕ, suc}
+use Rattle.seqs.specs.Seqs.{upd, insertAt, count, withoutBy, without, In}
+use Rattle.places.specs.Store.{Kind, Role, operands, successors, valueUses, blockUses, results, arguments, regions, ops, blocks, Fam, Kind-dec, Role-dec, Fam-dec, fam, Thing, Thing-dec, Con, Table, State, alive, Live, Tab, Link, Linked, born, gone, birth, end, setList, setOwn, relink, enter, leave}
+use Rattle.places.specs.View.{Rec, Names, shown, num, named, namedC, homeBy, recOf, view, amendIn, amend, changeList, setHome, bare, nBirth, nEnd, nEnter, nLeave}
+use Rattle.seqs.proofs.Base.{count-gone, upd-upd, map-insertAt, upd-at, upd-same, upd-other, upd-image, upd-self, map-on, map-append, map-withoutBy, rises-inj}
+use Rattle.places.specs.May.{CanEnter, Fresh, Bare}
+use Rattle.places.proofs.Steps.{node-other, home-other, listed, dead-bare, place-differs, thing-eq}
 
 abbrev Tabs : State → Type 0
 Tabs P = (k : Kind) → Tab (P .tab k)

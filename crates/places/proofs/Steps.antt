@@ -1,16 +1,16 @@
 -- Each step keeps a store linked. Assumes nothing.
 use mathlib.Core.Path.{_≡_, refl, sym, ap, _∙_, subst}
-use mathlib.Core.Logic.{_≢_, _↔_, ite, if-pos, if-neg, by-cases, _⊎_, inl, inr, ⊎-elim}
-use mathlib.Core.HLevel.{Discrete}
-use mathlib.Core.List.{List, [], _∷_, _++_, map}
+use mathlib.Core.Logic.{_≢_, by-cases, _⊎_, inl, inr, ⊎-elim}
+use mathlib.Core.List.{List, [], _∷_, _++_}
 use mathlib.Core.Option.{Option, none, some}
 use native.Mathlib.Decide.{ℕ-discrete}
 use native.Mathlib.Omega.{arith}
-use Prim.Native.Nat.{ℕ, zero, suc, _+_, _<_, _≤_}
+use Prim.Native.Nat.{ℕ, suc, _+_, _<_, _≤_}
 use lib.ListN.{length}
-use Rattle.seqs.specs.Seqs.{upd, tick, insertAt, count, withoutBy, without, In, Rises}
+use Rattle.seqs.specs.Seqs.{upd, tick, insertAt, count, without, In}
 use Rattle.places.specs.Store.{Kind, op, Role, Fam, Kind-dec, Role-dec, Fam-dec, fam, nodeOf, holderOf, Limited, Thing, Thing-dec, Con, Con-dec, Table, State, alive, Live, Tab, owns, Link, nest, outer, upBy, up, Ends, Clear, Linked, born, gone, birth, end, setList, setOwn, relink, enter, leave}
-use Rattle.seqs.proofs.Base.{upd-image, upd-self, count-insertAt, length-insertAt, count-leaves, length-less, in-head, upd-at, upd-same, upd-other, upd2-same, upd2-cases, upd2-other, tick-yes, tick-no, tick-pos, count-append, count-gone, count-stays, rises-inj, rises-once, rises-on, rises-snoc, rises-without, count-less}
+pub use Rattle.places.specs.May.{Fresh, Bare, CanEnter}
+use Rattle.seqs.proofs.Base.{upd-image, upd-self, count-insertAt, length-insertAt, count-leaves, length-less, in-head, upd-at, upd-same, upd-other, upd2-same, upd2-cases, tick-yes, tick-no, tick-pos, count-append, count-gone, count-stays, rises-on, rises-snoc, rises-without, count-less}
 
 -- ---- climbing
 
@@ -183,12 +183,6 @@ module _ (P : State) (a : Thing) (t : ℕ) where
   pub link-birth : {y : Thing} {f : Fam} {b : Con} → Link P y f b → Link (birth a t P) y f b
   link-birth {y} {f} {b} L = record { family = L .family; node = L .node; holder = L .holder; live = live-birth y (L .live); home = live-birth (b .1) (L .home) }
 
--- a may be born
-pub record Fresh (P : State) (a : Thing) (t : ℕ) : Type 0 where
-  pub dead : alive P a ≡ 0
-  pub room : a .1 < P .tab (a .0) .cap
-  pub flags : a .0 ≡ op → t ≤ 3
-
 pub birth-linked : {P : State} → Linked P → (a : Thing) (t : ℕ) → Fresh P a t → Linked (birth a t P)
 unfolding birth alive up
 birth-linked {P} S a t F =
@@ -212,11 +206,6 @@ module _ (P : State) (a : Thing) where
       by-cases (Kind-dec (b .0) (a .0))
       (λ e. rw (upd-at Kind-dec (P .tab) (a .0) (gone (a .1) (P .tab (a .0))) e, e) (count-stays ℕ-discrete (b .1) (a .1) (P .tab (a .0) .order) (place-differs n e)))
       (λ m. rw (upd-other Kind-dec (P .tab) (a .0) (gone (a .1) (P .tab (a .0))) m))
-
--- a may end: it stands in no list, and its own are empty
-pub record Bare (P : State) (a : Thing) : Type 0 where
-  pub alone : (f : Fam) → P .own a f ≡ none
-  pub empty : (r : Role) → P .list a r ≡ []
 
 pub owns-own : (c : Con) → owns (some c) c ≡ 1
 unfolding owns
@@ -345,15 +334,6 @@ dead-clear {P} S x d {y} (Ends.climb {y = z} e c) h = Clear.climb {x = y} (λ p.
 
 -- ---- the two steps on lists
 
-pub record CanEnter (P : State) (c : Con) (x : Thing) : Type 0 where
-  pub free : P .own x (fam (c .0)) ≡ none
-  pub node : x .0 ≡ nodeOf (c .0)
-  pub holder : c .1 .0 ≡ holderOf (c .0)
-  pub live : Live P x
-  pub home : Live P (c .1)
-  pub limit : Limited (c .0) → length (P .list (c .1) (c .0)) < 64
-  pub clear : nest (x .0) ≡ some (fam (c .0)) → Clear (up P) x (c .1)
-
 pub enter-ok : {P : State} → Linked P → (c : Con) (i : ℕ) (x : Thing) → CanEnter P c x → Linked (enter c i x P)
 unfolding enter
 enter-ok {P} S c i x E =
@@ -410,10 +390,6 @@ module _ (P : State) (c : Con) (x : Thing) where
   unfolding leave relink setOwn setList
   list-left = upd2-same Thing-dec Role-dec (P .list) (c .1) (c .0) (without Thing-dec x (P .list (c .1) (c .0)))
 
-  pub list-enter-other : (i : ℕ) (b : Thing) (r : Role) → r ≢ c .0 → enter c i x P .list b r ≡ P .list b r
-  unfolding enter
-  list-enter-other i b r n = ⊎-elim (λ h. absurd (n (h .1))) (λ h. h .1) (lists P c (insertAt i x (P .list (c .1) (c .0))) x (some c) b r)
-
   pub list-leave-other : (b : Thing) (r : Role) → r ≢ c .0 → leave c x P .list b r ≡ P .list b r
   unfolding leave
   list-leave-other b r n = ⊎-elim (λ h. absurd (n (h .1))) (λ h. h .1) (lists P c (without Thing-dec x (P .list (c .1) (c .0))) x none b r)
@@ -422,11 +398,3 @@ module _ (P : State) (c : Con) (x : Thing) where
 pub cap-end : (P : State) (a : Thing) (k : Kind) → end a P .tab k .cap ≡ P .tab k .cap
 unfolding end
 cap-end P a k = upd-image Kind-dec (λ _ (u : Table). u .cap) (P .tab) (a .0) (gone (a .1) (P .tab (a .0))) (P .tab (a .0) .cap) refl k ∙ upd-self Kind-dec (λ j. P .tab j .cap) (a .0) (P .tab (a .0) .cap) refl k
-
--- for the check: owners and lists that name each other, no list naming a thing twice, are held
-pub held-of : (P : State) → ((r : Role) (c x : Thing) → count Thing-dec x (P .list c r) ≤ 1) → ((r : Role) (c x : Thing) → In Thing-dec x (P .list c r) → P .own x (fam r) ≡ some (r, c))
-    → ((r : Role) (c x : Thing) → P .own x (fam r) ≡ some (r, c) → In Thing-dec x (P .list c r)) → (r : Role) (c x : Thing) → count Thing-dec x (P .list c r) ≡ owns (P .own x (fam r)) (r, c)
-held-of P one to back r c x =
-    by-cases (ℕ-discrete (owns (P .own x (fam r)) (r, c)) 0)
-    (λ z. by-cases (ℕ-discrete (count Thing-dec x (P .list c r)) 0) (λ y. y ∙ sym z) (λ y. absurd (omega (arith, owns-own (r, c), ap (λ (o : Option Con). owns o (r, c)) (to r c x (omega arith))))))
-    (λ n. let e : P .own x (fam r) ≡ some (r, c) = owns-some (P .own x (fam r)) (r, c) (omega arith) in rw (e, owns-own) (omega (arith, one r c x, back r c x e)))

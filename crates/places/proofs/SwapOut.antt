@@ -2,12 +2,12 @@
 use mathlib.Core.Path.{_≡_, refl, sym, ap, _∙_}
 use mathlib.Core.Logic.{_≢_, _↔_, ite, if-pos, if-neg, by-cases}
 use mathlib.Core.HLevel.{Discrete}
-use mathlib.Core.List.{List, [], _∷_, _++_, map, map-map}
+use mathlib.Core.List.{List, [], _∷_, map, map-map}
 use native.Mathlib.Omega.{arith}
-use Prim.Native.Nat.{ℕ, zero, suc, _+_, _<_, _≤_}
+use Prim.Native.Nat.{suc, _+_, _≤_}
 use lib.ListN.{length, length-map}
 use Rattle.seqs.specs.Seqs.{tick, count, In, lastOf, frontOf, swapOut}
-use Rattle.seqs.proofs.Base.{tick-yes, tick-no, in-head, in-tail, map-on}
+use Rattle.seqs.proofs.Base.{tick-yes, tick-no, map-on}
 
 module _ {A : Type 0} (d : Discrete A) where
   pub count-front : (a y : A) (l : List A) → count d a (frontOf y l) + tick (d a (lastOf y l)) ≡ count d a (y ∷ l)

@@ -1,21 +1,20 @@
 -- The rules' changes of tables, over a list of places; and sums over places. Assumes nothing.
-use mathlib.Core.Path.{_≡_, refl, sym, ap, ap₂, _∙_, subst, fun-ext}
-use mathlib.Core.Logic.{_≢_, by-cases, _⊎_, inl, inr, ⊎-elim}
+use mathlib.Core.Path.{_≡_, refl, sym, ap, ap₂, _∙_}
+use mathlib.Core.Logic.{_≢_, by-cases, ⊎-elim}
 use mathlib.Core.HLevel.{Discrete}
-use mathlib.Core.Bool.{Bool, true, false, not, cond, _&&_, _||_}
-use mathlib.Core.List.{List, [], _∷_, _++_, map, map-map}
-use mathlib.Core.Option.{Option, none, some}
+use mathlib.Core.Bool.{Bool, true, false, not, cond}
+use mathlib.Core.List.{List, [], _∷_, _++_, map}
 use native.Mathlib.Decide.{ℕ-discrete}
 use native.Mathlib.Omega.{arith}
-use Prim.Native.Nat.{ℕ, zero, suc, _+_, _<_, _≤_}
+use Prim.Native.Nat.{ℕ, zero, suc, _+_, _<_}
 use lib.Dec.{eqb}
 use lib.ListN.{length}
 use Rattle.seqs.specs.Seqs.{tick, count, In, sum, removeAt}
 use Rattle.places.specs.Walk.{pick, sgn, sift}
-use Rattle.rules.specs.Table.{Table, change-all, keep-keys, member, gather, keep, items, concat, any, change, remove-at}
+use Rattle.rules.specs.Table.{change-all, keep-keys, gather, keep, items, concat, any, change, remove-at}
 use Rattle.seqs.proofs.Base.{tick-yes, tick-no, tick-pos, in-head, in-tail, count-append}
 use Rattle.seqs.proofs.Sums.{sum-append}
-use Rattle.places.proofs.Cut.{pick-0, pick-1, zero-or}
+use Rattle.places.proofs.Cut.{zero-or}
 use Rattle.places.proofs.Bits.{bit, bit-eqb, or-sum, sgn-bit}
 
 module _ {A : Type 0} (nm : ℕ → ℕ) (g : ℕ → A) where

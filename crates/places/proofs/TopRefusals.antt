@@ -1,19 +1,18 @@
 -- Refusals 13 and 14 of the edits 39 to 41, and the verdicts 42 to 44, are the rules'. Assumes nothing.
-use mathlib.Core.Path.{_≡_, refl, sym, ap, ap₂, _∙_, subst}
-use mathlib.Core.Bool.{Bool, true, false, not, cond, _&&_, _||_}
-use mathlib.Core.List.{List, [], _∷_, _++_, map}
-use mathlib.Core.Option.{Option, none, some}
+use mathlib.Core.Path.{_≡_, refl, sym, ap, _∙_, subst}
+use mathlib.Core.Bool.{Bool, true, false}
+use mathlib.Core.List.{map}
+use mathlib.Core.Option.{Option}
 use native.Mathlib.Omega.{arith}
 use Prim.Native.Nat.{ℕ, zero, suc, _+_, _<_, _≤_}
 use borrow.Author.Tests.{le-leb}
 use lib.Dec.{T, leb, leb→le}
 use lib.ListN.{length, length-map, getD}
 use Rattle.seqs.specs.Seqs.{sum}
-use Rattle.places.specs.Store.{Kind, op, blk, reg, Role, regions, ops, Thing, State, Live, Sound}
+use Rattle.places.specs.Store.{op, blk, reg, regions, ops, Thing, State, Live, Sound}
 use Rattle.places.specs.View.{num, recOf, view}
 use Rattle.places.specs.Hist.{opOf, hist, ruleState, theThing}
-use Rattle.places.specs.Alias.{RThing}
-use Rattle.places.specs.Walk.{pick, sgn, among, everything, strays, straysIn}
+use Rattle.places.specs.Walk.{pick, sgn, strays, straysIn}
 use Rattle.rules.specs.Table.{find}
 use Rattle.edit.specs.Record.{of-value, the-region, erase-operation, erase-block, erase-region, verdict}
 use Rattle.rules.specs.History.{History, Operation, values-at, results-of, regions-of, region-index}
@@ -22,7 +21,6 @@ use Rattle.rules.specs.Step.{answer}
 use Rattle.rules.specs.Refusal.{check, meets, definitions-in, used-outside, direct, from-state}
 use Rattle.places.proofs.Nest.{kindCode}
 use Rattle.places.proofs.Bits.{bit, find-view}
-use Rattle.places.proofs.Cut.{pick-0, pick-1, Closed}
 use Rattle.places.proofs.Outside.{Marks}
 use Rattle.places.proofs.RuleOutside.{deeper, direct-op, direct-blk}
 use Rattle.places.proofs.RuleRegion.{index-of}

@@ -1,17 +1,16 @@
 -- The use sets hold each live use once: their lengths add up to the number of live uses. Assumes nothing.
 use mathlib.Core.Path.{_≡_, refl, sym, ap, ap₂, _∙_}
 use mathlib.Core.Logic.{_≢_, by-cases, _⊎_, inl, inr, ⊎-elim}
-use mathlib.Core.HLevel.{Discrete}
 use mathlib.Core.List.{List, [], _∷_, _++_, map}
-use mathlib.Core.Option.{Option, none, some}
+use mathlib.Core.Option.{some}
 use native.Mathlib.Decide.{ℕ-discrete}
 use native.Mathlib.Omega.{arith}
-use Prim.Native.Nat.{ℕ, zero, suc, _+_, _<_, _≤_}
-use lib.ListN.{length, length-map}
+use Prim.Native.Nat.{ℕ, _+_, _<_}
+use lib.ListN.{length}
 use Rattle.seqs.specs.Seqs.{tick, count, In, sum, upto}
 use Rattle.places.specs.Store.{Kind, blk, val, usg, Role, valueUses, blockUses, Fam, useSets, fam, nodeOf, holderOf, Thing, Thing-dec, Con, Con-dec, State, alive, Live, Link, Linked, owns, Fit, UseHeld, Sound}
-use Rattle.seqs.proofs.Base.{tick-yes, tick-no, in-head, in-tail, count-append, rises-once}
-use Rattle.seqs.proofs.Sums.{sum-on, sum-add, sum-zero, sum-one, sum-append, sum-count, length-count, sum-swap, sum-map, count-map, count-none, count-upto-above, count-upto, in-map}
+use Rattle.seqs.proofs.Base.{count-append, rises-once}
+use Rattle.seqs.proofs.Sums.{sum-on, sum-one, sum-append, length-count, sum-swap, sum-map, count-map, count-none, count-upto, in-map}
 use Rattle.places.proofs.Steps.{listed}
 
 -- the lists cs, of one family, hold each live thing of the kind k once

@@ -1,25 +1,20 @@
 -- A loop of primitives: all operands of an operation end, one after the other. Assumes nothing.
-use mathlib.Core.Path.{_≡_, refl, sym, ap, _∙_, subst}
-use mathlib.Core.Logic.{_≢_, by-cases}
-use mathlib.Core.List.{List, [], _∷_, _++_, map}
-use mathlib.Core.Option.{Option, none, some}
+use mathlib.Core.Path.{_≡_, refl, sym, ap, _∙_}
+use mathlib.Core.List.{List, _∷_, map}
+use mathlib.Core.Option.{some}
 use native.Mathlib.Omega.{arith}
-use Prim.Native.Nat.{ℕ, zero, suc, _+_, _<_, _≤_}
-use lib.ListN.{length}
-use Rattle.places.specs.Store.{Kind, op, blk, reg, val, usg, Role, operands, successors, valueUses, blockUses, results, arguments, regions, ops, blocks, Fam, slots, useSets, vals, regs, opsIn, blocksIn, fam, nodeOf, holderOf, Limited, Thing, Thing-dec, Con, State, alive, Live, Link, nest, up, Clear, Linked, Fit, UseHeld, Placed, Sound, birth, end, enter, leave, relink, setOwn, setList}
-use Rattle.places.specs.View.{Names, shown, num, named, namedC, view, amend, setHome, nBirth, nEnd, nEnter, nLeave, nHold}
-use Rattle.places.specs.Edits.{nDrop, birthUse, nBirthUse, endUse, nEndUse, moveUse, linkOp, unlinkOp, birthRegion, nBirthRegion}
-use Rattle.places.proofs.Steps.{Fresh, Bare, CanEnter, birth-linked, end-linked, enter-ok, leave-ok, alive-born, alive-birth, live-birth, alive-end, alive-ended, alive-enter, alive-leave, own-entered, own-left, own-enter-fam, own-leave-fam, own-enter-other, own-leave-other, listed, bare-of, dead-bare, some-none}
-use Rattle.places.proofs.Sees.{see-birth, num-new, num-old, not-new, see-end, num-end, see-enter, hold, see-leave, unhold, home-twice, end-amend}
-use Rattle.places.proofs.Placing.{Fits, fits, slots≢useSets, placed-but, use-holds-nothing, use-fams, isUse}
+use Rattle.places.specs.Store.{usg, slots, fam, Thing, Thing-dec, Con, State, Live, Link, UseHeld, Sound}
+use Rattle.places.specs.View.{num, named, namedC, view}
+use Rattle.places.specs.Edits.{nDrop, endUse, nEndUse}
+use Rattle.places.proofs.Steps.{listed}
+use Rattle.places.proofs.Placing.{use-holds-nothing}
 use Rattle.places.specs.Parts.{nodeIn}
 use Rattle.places.proofs.Rows.{node-in}
-use native.Mathlib.Decide.{ℕ-discrete}
-use Rattle.seqs.specs.Seqs.{without, count, In, tick}
+use Rattle.seqs.specs.Seqs.{without, count}
 use Rattle.places.proofs.Steps.{once, thing-eq, some-inj}
-use Rattle.seqs.proofs.Base.{in-head, map-on, tick-yes, count-gone, count-stays}
+use Rattle.seqs.proofs.Base.{in-head, map-on, tick-yes, count-gone}
 use Rattle.places.proofs.Extra.{without-head}
-use Rattle.places.proofs.EndUse.{endUse-sound, endUse-view, endUse-num, endUse-list}
+use Rattle.places.proofs.EndUse.{endUse-view, endUse-num, endUse-list}
 
 -- one turn: the first operand ends
 module _ {P : State} (S : Sound P) (c : Con) (F : fam (c .0) ≡ slots) (x : Thing) (l : List Thing) (at : P .list (c .1) (c .0) ≡ x ∷ l) where
@@ -46,9 +41,6 @@ module _ {P : State} (S : Sound P) (c : Con) (F : fam (c .0) ≡ slots) (x : Thi
 
   abbrev pub P₁ : State
   P₁ = endUse (held .slot) (held .def) u P
-
-  S₁ : Sound P₁
-  S₁ = endUse-sound S (x .1) live held
 
   rest : without Thing-dec u (x ∷ l) ≡ l
   rest = without-head Thing-dec u x l x-is (omega (arith, ap (count Thing-dec u) at, once (S .linked) x slots c owned, ap (λ (y : Thing). count Thing-dec y (P .list (c .1) (c .0))) x-is, tick-yes (Thing-dec u x) (sym x-is)))

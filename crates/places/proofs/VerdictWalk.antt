@@ -1,14 +1,13 @@
 -- The verdict by a depth is the same for every depth that the nest fits into: so it may be opened without one. Assumes nothing.
-use mathlib.Core.Path.{_≡_, refl, sym, ap, ap₂, _∙_, subst, fun-ext}
-use mathlib.Core.Logic.{_≢_, by-cases, _⊎_, inl, inr, ⊎-elim}
-use mathlib.Core.Bool.{Bool, true, false, not, cond, _&&_, _||_}
-use mathlib.Core.List.{List, [], _∷_, _++_, map}
+use mathlib.Core.Path.{_≡_, refl, sym, ap, ap₂, _∙_}
+use mathlib.Core.Bool.{true, false, _||_}
+use mathlib.Core.List.{List, [], _∷_, _++_}
 use mathlib.Core.Option.{Option, none, some}
 use native.Mathlib.Omega.{arith}
-use Prim.Native.Nat.{ℕ, zero, suc, _+_, _<_, _≤_}
+use Prim.Native.Nat.{ℕ, zero, suc, _+_, _≤_}
 use lib.ListN.{length}
-use Rattle.seqs.specs.Seqs.{tick, count, In, sum}
-use Rattle.places.specs.Store.{Kind, Kind-dec, op, blk, reg, val, usg, Role, regions, ops, blocks, fam, nodeOf, Thing, Thing-dec, Con, State, Live, Link, Linked, Sound, up}
+use Rattle.seqs.specs.Seqs.{tick, In}
+use Rattle.places.specs.Store.{Kind-dec, op, blk, reg, val, usg, regions, ops, blocks, fam, Thing, Thing-dec, State, Live, Linked, Sound, up}
 use Rattle.places.specs.View.{num}
 use Rattle.places.specs.Hist.{theThing, ruleState}
 use Rattle.places.specs.Walk.{kids, walk}
@@ -16,8 +15,8 @@ use Rattle.rules.specs.Table.{some-and}
 use Rattle.edit.specs.Answer.{Reply, refuse, found}
 use Rattle.rules.specs.Verdict.{is-clean, sight, block-verdict-by, region-verdict-by, operation-verdict, verdict-on}
 use Rattle.places.specs.Verdict.{lackable, endsWell, strayUser, lostPred, firstMet, inBlock, blockVerdict, regionVerdict, tooEarly, opVerdict}
-use Rattle.seqs.proofs.Base.{tick-yes, tick-no, in-head, in-tail, count-append}
-use Rattle.places.proofs.Steps.{thing-eq, listed}
+use Rattle.seqs.proofs.Base.{tick-yes, in-head, in-tail, count-append}
+use Rattle.places.proofs.Steps.{listed}
 use Rattle.places.proofs.Climb.{opsOf}
 use Rattle.places.proofs.Nest.{kindCode, walk-ops}
 use Rattle.places.proofs.DropTurn.{ops-eq}

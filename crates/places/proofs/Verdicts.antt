@@ -1,24 +1,23 @@
 -- Verdicts by places are the rules' verdicts by numbers. Assumes nothing.
-use mathlib.Core.Path.{_≡_, refl, sym, ap, ap₂, _∙_, subst, fun-ext}
-use mathlib.Core.Logic.{_≢_, by-cases, _⊎_, inl, inr, ⊎-elim}
+use mathlib.Core.Path.{_≡_, refl, sym, ap, ap₂, _∙_, subst}
+use mathlib.Core.Logic.{by-cases, ⊎-elim}
 use mathlib.Core.HLevel.{Discrete}
 use mathlib.Core.Bool.{Bool, true, false, not, cond, _&&_, _||_}
-use mathlib.Core.List.{List, [], _∷_, _++_, map, map-map}
+use mathlib.Core.List.{List, [], _∷_, map}
 use mathlib.Core.Option.{Option, none, some}
 use native.Mathlib.Decide.{ℕ-discrete}
 use native.Mathlib.Omega.{arith}
-use Prim.Native.Nat.{ℕ, zero, suc, _+_, _<_, _≤_, _%_}
+use Prim.Native.Nat.{ℕ, zero, suc, _<_, _%_}
 use lib.Dec.{eqb, leb}
 use lib.ListN.{length, length-map}
-use Rattle.seqs.specs.Seqs.{tick, count, In, sum}
-use Rattle.places.specs.Store.{Kind, op, blk, reg, val, usg, Role, operands, successors, valueUses, blockUses, results, arguments, regions, ops, blocks, Fam, slots, useSets, vals, regs, opsIn, blocksIn, fam, nodeOf, holderOf, Thing, Thing-dec, Con, Con-dec, State, alive, Live, Link, Linked, UseHeld, Fit, Sound, owns, outer, up}
-use Rattle.places.specs.View.{Rec, num, homeBy, recOf, view}
-use Rattle.edit.specs.Record.{Definition, of-value, of-block}
-use Rattle.places.specs.Plain.{defOf, tabled}
-use Rattle.places.specs.Hist.{opOf, blockOf, useOf, hist, ordersOf, ruleState}
-use Rattle.places.specs.Walk.{pick, sgn}
+use Rattle.seqs.specs.Seqs.{tick, In, sum}
+use Rattle.places.specs.Store.{Kind, op, blk, reg, usg, Role, successors, blockUses, regions, ops, blocks, slots, useSets, opsIn, fam, nodeOf, holderOf, Thing, Thing-dec, Con, Con-dec, State, alive, Live, Link, UseHeld, Fit, Sound, outer, up}
+use Rattle.places.specs.View.{num, homeBy, recOf, view}
+use Rattle.edit.specs.Record.{Definition, of-block}
+use Rattle.places.specs.Hist.{defOf, opOf, useOf, hist, ordersOf, ruleState}
+use Rattle.places.specs.Walk.{sgn}
 use Rattle.rules.specs.Table.{Table, some-and, find, find-key, is-some, any, items, remake, member, last-of, last-item, has-next}
-use Rattle.rules.specs.History.{Operation, Block, History, same-definition, block-at, block-of, region-at, region-of, parent}
+use Rattle.rules.specs.History.{Operation, Block, History, same-definition, region-at, region-of, parent}
 use Rattle.places.specs.Alias.{RState}
 use Rattle.edit.specs.Answer.{Reply, clean, refuse, found}
 use Rattle.rules.specs.Verdict.{is-clean, first-met, Seen, Sight, target, sight, flat, seen-block, seen-regions, is-terminator, may-lack, ends-well, names-block, leads-to, stray-user, lost-pred, in-block, block-verdict-by, region-verdict-by, too-early, operation-verdict}
@@ -30,7 +29,7 @@ use Rattle.places.proofs.Steps.{some-inj, some-none, thing-eq, listed, 
 use Rattle.places.proofs.Sees.{num-inj}
 use Rattle.places.proofs.Fuel.{around}
 use Rattle.places.proofs.Cut.{pick-0, pick-1, zero-or}
-use Rattle.places.proofs.Bits.{bit, bit-eqb, bit-true, bit-false, tabled-view, find-tabled, find-view}
+use Rattle.places.proofs.Bits.{bit, bit-eqb, bit-true, tabled-view, find-tabled, find-view}
 use Rattle.places.proofs.Tables.{bit-any, sum-some, items-tabled}
 use Rattle.places.proofs.Outside.{part-sum}
 use Rattle.places.proofs.RuleClimb.{numOpt, number-home, up-kind, region-at-num, parent-num}
@@ -92,11 +91,6 @@ key-remake : {A B : Type 0} (f : ℕ → A → B) (p : B → Bool) (q : A → Bo
 unfolding remake find-key
 key-remake f p q [] h = refl
 key-remake f p q (e ∷ t) h = ap₂ {C = Option ℕ} (λ (b : Bool) (r : Option ℕ). cond b (some (e .0)) r) (h (e .0) (e .1)) (key-remake f p q t h)
-
-pub length-remake : {A B : Type 0} (f : ℕ → A → B) (t : Table A) → length (remake f t) ≡ length t
-unfolding remake
-length-remake f [] = refl
-length-remake f (e ∷ t) = ap suc (length-remake f t)
 
 flat-remake : (t : Table Block) (n : ℕ) → flat (find (remake (λ _ (b : Block). b .region) t) n) ≡ region-of (find t n)
 unfolding remake find flat region-of

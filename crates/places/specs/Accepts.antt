@@ -5,8 +5,7 @@ use mathlib.Core.List.{_++_}
 use Prim.Native.Nat.{ℕ}
 use Rattle.places.specs.Store.{Kind, op, val, State}
 use Rattle.places.specs.View.{view}
-use Rattle.places.specs.Plain.{tabled}
-use Rattle.places.specs.Hist.{hist, ordersOf}
+use Rattle.places.specs.Hist.{tabled, hist, ordersOf}
 use Rattle.edit.specs.Record.{Edit}
 use Rattle.rules.specs.Table.{number}
 use Rattle.rules.specs.History.{remember}

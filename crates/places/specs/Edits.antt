@@ -1,9 +1,8 @@
 -- The primitives that edits are made of, by places and by numbers. Assumes nothing.
-use mathlib.Core.List.{List, [], _∷_, _++_}
-use mathlib.Core.Option.{Option, none, some}
+use mathlib.Core.List.{List, [], _∷_}
 use Prim.Native.Nat.{ℕ}
-use Rattle.places.specs.Store.{Kind, op, blk, reg, val, usg, Role, ops, regions, Fam, Thing, Con, State, birth, end, enter, leave}
-use Rattle.places.specs.View.{Names, nBirth, nEnd, nEnter, nLeave, nHold, amend, changeList}
+use Rattle.places.specs.Store.{usg, Thing, Con, State, birth, end, enter, leave}
+use Rattle.places.specs.View.{Names, nBirth, nEnd, nEnter, nHold, amend, changeList}
 use Rattle.seqs.specs.Seqs.{without}
 use native.Mathlib.Decide.{ℕ-discrete}
 
@@ -22,18 +21,6 @@ nEndUse slot u N = nEnd (u .0) (u .1) (amend (slot .1 .0) (slot .1 .1) (changeLi
 
 abbrev pub moveUse : Con → Con → ℕ → Thing → State → State
 moveUse def def′ j u P = enter def′ j u (leave def u P)
-
-abbrev pub linkOp : Thing → ℕ → Thing → State → State
-linkOp b i o P = enter (ops, b) i o P
-
-abbrev pub unlinkOp : Thing → Thing → State → State
-unlinkOp b o P = leave (ops, b) o P
-
-abbrev pub birthRegion : Thing → ℕ → ℕ → State → State
-birthRegion o i q P = enter (regions, o) i (reg, q) (birth (reg, q) 0 P)
-
-abbrev pub nBirthRegion : Thing → ℕ → Names → Names
-nBirthRegion o i N = nEnter (regions, o) i (reg, N .next reg) (nBirth reg 0 N)
 
 -- the uses of a list end, from the first on
 unfoldable pub nDrop : Con → List ℕ → Names → Names

@@ -1,18 +1,39 @@
 -- The store by places as the rules see it. Assumes nothing.
-use mathlib.Core.List.{List, [], _∷_, _++_, map}
+use mathlib.Core.List.{List, map}
 use mathlib.Core.Option.{Option, none, some}
-use mathlib.Core.Bool.{Bool, true, false}
 use Prim.Native.Nat.{ℕ, _-_}
 use lib.ListN.{length}
-use Rattle.places.specs.Store.{Kind, op, blk, reg, val, usg, results, operands, successors, regions, arguments, ops, blocks, opsIn, blocksIn, useSets, Thing, State}
+use Rattle.places.specs.Store.{Kind, op, blk, reg, val, usg, Role, operands, successors, valueUses, blockUses, results, arguments, regions, ops, blocks, opsIn, blocksIn, useSets, Thing, State}
 use Rattle.places.specs.View.{Rec, Names, num, view}
-use Rattle.edit.specs.Record.{Definition}
-use Rattle.places.specs.Plain.{number, defOf, tabled}
-use Rattle.places.specs.Alias.{RThing}
-use Rattle.edit.specs.Record.{the-operation, the-block, the-region}
+use Rattle.edit.specs.Record.{Definition, of-value, of-block, the-operation, the-block, the-region}
+use Rattle.places.specs.Alias.{RThing, RState}
 use Rattle.rules.specs.History.{Five, Operation, Block, History}
 use Rattle.rules.specs.Orders.{Orders}
-use Rattle.places.specs.Alias.{RState}
+
+-- what a thing lies in, by its number
+abbrev pub number : Option (Role × ℕ) → Option ℕ
+number none = none
+number (some c) = some (c .1)
+
+-- what a use is a use of: the holder of the set in which it stands
+abbrev pub defBy : Role → ℕ → Definition
+defBy operands n = of-value n
+defBy successors n = of-value n
+defBy valueUses n = of-value n
+defBy blockUses n = of-block n
+defBy results n = of-value n
+defBy arguments n = of-value n
+defBy regions n = of-value n
+defBy ops n = of-value n
+defBy blocks n = of-value n
+
+abbrev pub defOf : Option (Role × ℕ) → Definition
+defOf none = of-value 0
+defOf (some c) = defBy (c .0) (c .1)
+
+-- the entries of a table: a record's number, and what f reads of it
+abbrev pub tabled : {A : Type 0} → (Rec → A) → List Rec → List (ℕ × A)
+tabled f l = map (λ e. (e .num, f e)) l
 
 abbrev pub opOf : Rec → Operation
 opOf e = record { results = e .lists results; operands = e .lists operands; successors = e .lists successors; regions = e .lists regions; block = number (e .homes opsIn) }

@@ -1,13 +1,12 @@
 pub mod Store
 pub mod View
+pub mod May
 pub mod Edits
-pub mod Plain
 pub mod Parts
 pub mod Walk
 pub mod Alias
 pub mod Hist
 pub mod Verdict
-pub mod Model
 pub mod Roles
 pub mod Members
 pub mod Accepts

@@ -5,7 +5,7 @@ use mathlib.Core.HLevel.{Discrete}
 use mathlib.Core.List.{List, [], _∷_}
 use mathlib.Core.Option.{Option, none, some}
 use native.Mathlib.Decide.{ℕ-discrete, decLt}
-use Prim.Native.Nat.{ℕ, zero, suc}
+use Prim.Native.Nat.{ℕ, suc}
 use lib.ListN.{length}
 use Rattle.seqs.specs.Seqs.{count, swapOut}
 use Rattle.places.specs.Store.{op, reg, Role, regions, ops, blocks, fam, nodeOf, holderOf, Thing, Thing-dec, Con, State, relink, enter}

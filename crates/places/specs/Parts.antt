@@ -3,10 +3,10 @@ use mathlib.Core.Logic.{ite}
 use mathlib.Core.List.{List, [], _∷_, _++_, map}
 use mathlib.Core.Option.{Option, none, some}
 use native.Mathlib.Decide.{ℕ-discrete, decLt}
-use Prim.Native.Nat.{ℕ, zero, suc, _+_, _-_, _*_, _/_, _%_, _<_}
+use Prim.Native.Nat.{ℕ, suc, _+_, _-_, _*_, _/_, _%_}
 use Rattle.seqs.specs.Seqs.{upd, withoutBy}
 pub use Rattle.seqs.specs.Entries.{lookup, places}
-use Rattle.places.specs.Store.{Kind, Kind-dec, op, blk, reg, val, usg, Role, operands, successors, valueUses, blockUses, results, arguments, regions, ops, blocks, Fam, Fam-dec, slots, useSets, vals, regs, opsIn, blocksIn, fam, nodeOf, holderOf, Thing, Thing-dec, Con, Con-dec, Table, State}
+use Rattle.places.specs.Store.{Kind, Kind-dec, op, blk, reg, val, usg, Role, operands, successors, valueUses, blockUses, results, arguments, regions, ops, blocks, Fam, Fam-dec, slots, useSets, vals, regs, opsIn, blocksIn, fam, nodeOf, Thing, Thing-dec, Con, Con-dec, Table, State}
 
 -- a table: its live things, number and place, in rising number
 pub record Book : Type 0 where

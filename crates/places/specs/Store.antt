@@ -5,7 +5,7 @@ use mathlib.Core.HLevel.{Discrete, ×-discrete}
 use mathlib.Core.List.{List, [], _∷_, _++_}
 use mathlib.Core.Option.{Option, none, some}
 use native.Mathlib.Decide.{ℕ-discrete}
-use Prim.Native.Nat.{ℕ, zero, suc, _+_, _<_, _≤_}
+use Prim.Native.Nat.{ℕ, suc, _<_, _≤_}
 use lib.ListN.{length}
 use Rattle.seqs.specs.Seqs.{upd, tick, insertAt, count, without, In, Rises}
 

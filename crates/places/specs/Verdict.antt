@@ -1,18 +1,14 @@
 -- Verdicts by places. Assumes nothing.
-use mathlib.Core.Bool.{Bool, true, false, not, cond, _&&_, _||_}
-use mathlib.Core.List.{List, [], _∷_, _++_, map}
+use mathlib.Core.Bool.{Bool, true, false, not, _&&_, _||_}
+use mathlib.Core.List.{List, [], _∷_}
 use mathlib.Core.Option.{Option, none, some}
-use Prim.Native.Nat.{ℕ, zero, suc, _+_, _-_, _%_}
-use lib.Dec.{eqb, leb, ltb}
-use lib.ListN.{length}
-use Rattle.places.specs.Store.{Kind, op, blk, reg, val, usg, Role, successors, blockUses, regions, ops, blocks, Fam, slots, useSets, Thing, Thing-dec, Con, Con-dec, State, outer, up}
-use Rattle.places.specs.View.{Rec, num, view}
-use Rattle.places.specs.Plain.{tabled}
-use Rattle.places.specs.Hist.{hist}
+use Prim.Native.Nat.{ℕ, zero, suc, _%_}
+use lib.Dec.{eqb, leb}
+use Rattle.places.specs.Store.{successors, blockUses, regions, ops, blocks, slots, useSets, Thing, Thing-dec, Con, Con-dec, State, outer, up}
+use Rattle.places.specs.View.{num}
 use Rattle.rules.specs.Table.{any, some-and, is-some}
 use Rattle.edit.specs.Answer.{Reply, clean, refuse, found}
 use Rattle.rules.specs.Verdict.{is-clean}
-use Rattle.places.specs.Alias.{RState}
 
 abbrev pub asBool {ℓ} : {A : Type ℓ} → Dec A → Bool
 asBool (yes e) = true

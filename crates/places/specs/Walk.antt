@@ -1,12 +1,11 @@
 -- The nest walk by places: what lies inside a thing, in order; and the store without some things. Assumes nothing.
 use mathlib.Core.List.{List, [], _∷_, _++_, map}
 use mathlib.Core.Option.{Option, none, some}
-use native.Mathlib.Decide.{ℕ-discrete}
-use Prim.Native.Nat.{ℕ, zero, suc, _+_}
+use Prim.Native.Nat.{ℕ, zero, suc}
 use lib.ListN.{length}
-use Rattle.seqs.specs.Seqs.{count, sum, upd, tick}
-use Rattle.places.specs.Store.{Kind, op, blk, reg, val, usg, Role, operands, successors, valueUses, blockUses, results, arguments, regions, ops, blocks, slots, useSets, vals, nodeOf, Thing, Thing-dec, Con, Table, State, outer, up}
-use Rattle.places.specs.View.{Rec, Names}
+use Rattle.seqs.specs.Seqs.{count, sum}
+use Rattle.places.specs.Store.{Kind, op, blk, reg, val, usg, operands, successors, valueUses, blockUses, results, arguments, regions, ops, blocks, slots, useSets, nodeOf, Thing, Thing-dec, Con, Table, State, outer}
+use Rattle.places.specs.View.{Rec}
 use Rattle.places.specs.Edits.{endUse}
 
 -- the first where the number is 0, and else the second
@@ -104,9 +103,6 @@ endUses (u ∷ us) P = endUses us (endUseAt u P)
 abbrev pub trim : (Kind → ℕ → ℕ) → Rec → Rec
 trim p e = record { num = e .num; tag = e .tag; lists = λ r. sift (p (nodeOf r)) (e .lists r); homes = e .homes }
 
-unfoldable pub nCut : (Kind → ℕ → ℕ) → Names → Names
-nCut p N = record { next = N .next; things = λ k. map (trim p) (sift (λ e. p k (e .num)) (N .things k)) }
-
 -- ---- used from outside
 
 -- the use sets of the definitions of a thing: the block itself, arguments, results
@@ -140,37 +136,3 @@ everything P x = dropList P x ++ innards P x
 
 unfoldable pub erased : State → Thing → State
 erased P x = cutAll (innards P x) (dropped P x)
-
--- ---- marks
-
--- a mark on each
-abbrev pub markAll : List ℕ → (ℕ → ℕ) → ℕ → ℕ
-markAll [] mk = mk
-markAll (o ∷ os) mk = markAll os (upd ℕ-discrete mk o 1)
-
--- and none
-abbrev pub clearAll : List ℕ → (ℕ → ℕ) → ℕ → ℕ
-clearAll [] mk = mk
-clearAll (o ∷ os) mk = clearAll os (upd ℕ-discrete mk o 0)
-
--- ---- the same test without a walk: use by use, with marks on operations only
-
--- is the operation or the block inside x, by the marks
-abbrev pub ownerIn : State → (ℕ → ℕ) → Thing → Thing → ℕ
-ownerIn P mk x (op, o) = mk o
-ownerIn P mk x (blk, b) = tick (Thing-dec (blk, b) x) + over (up P (blk, b)) (λ r. tick (Thing-dec r x) + over (up P r) (λ o. mk (o .1)))
-ownerIn P mk x (reg, p) = 0
-ownerIn P mk x (val, p) = 0
-ownerIn P mk x (usg, p) = 0
-
--- is the definition: a value by its owner, a block by itself
-abbrev pub defIn : State → (ℕ → ℕ) → Thing → Thing → ℕ
-defIn P mk x (val, v) = over (outer (P .own (val, v) vals)) (ownerIn P mk x)
-defIn P mk x (blk, b) = ownerIn P mk x (blk, b)
-defIn P mk x (op, p) = 0
-defIn P mk x (reg, p) = 0
-defIn P mk x (usg, p) = 0
-
--- the uses from outside of what is inside
-unfoldable pub strayUses : State → (ℕ → ℕ) → Thing → ℕ
-strayUses P mk x = sum (λ u. pick (markOf P mk (usg, u)) (over (outer (P .own (usg, u) useSets)) (defIn P mk x)) 0) (P .tab usg .order)

@@ -1,28 +1,18 @@
 -- The readers of a memory of any contents: the header's capacities, the check's answer, and the front part that is handed back.
 -- Assumes nothing.
 use mathlib.Core.Path.{_≡_, refl, sym, ap, _∙_, subst}
-use mathlib.Core.List.{List, [], _∷_}
+use mathlib.Core.List.{List}
 use native.Mathlib.Omega.{arith}
-use Prim.Native.Nat.{ℕ, _+_, _-_, _≤_, _<_}
-use lib.ListN.{length, take, drop, getD, length-append, length-drop}
-use lib.Seq.{getD-take, take-at}
-use Rattle.seqs.specs.Split.{split}
+use Prim.Native.Nat.{ℕ, _+_, _-_, _≤_}
+use lib.ListN.{length, take, drop, length-append, length-drop}
+use lib.Seq.{take-at}
 use Rattle.edit.specs.Record.{Definition}
 use Rattle.context.specs.declared.Layout.{Layout}
 use Rattle.context.specs.Memory.{layoutOf, SoundStore}
-use Rattle.context.specs.Checked.{Headed}
 use Rattle.context.specs.Performed.{abs}
 use Rattle.readers.specs.declared.Uses.{Uses}
 use Rattle.readers.specs.declared.Uses.the-variants.{Refused}
 use Rattle.readers.specs.UsesOf.{handed, refusalIn, countIn, Told, ToldOf, Fronted}
-
--- the capacities that were read are the header's
-pub headed : {l : Layout} {m : List ℕ} → Headed l m → l ≡ layoutOf m
-unfolding split
-headed {l} {m} H = λ i. record { ops = at 0 (omega arith) i; blocks = at 1 (omega arith) i; regions = at 2 (omega arith) i; values = at 3 (omega arith) i; uses = at 4 (omega arith) i }
-  where
-    at : (j : ℕ) → j < 5 → getD (l .ops ∷ l .blocks ∷ l .regions ∷ l .values ∷ l .uses ∷ []) j 0 ≡ getD m j 0
-    at j h = ap (λ (t : List ℕ). getD t j 0) (sym (H .head)) ∙ getD-take 5 m j 0 h
 
 module _ {m : List ℕ} where
   pub long-enough : SoundStore (layoutOf m) m → 5 ≤ length m

@@ -14,8 +14,7 @@ use Rattle.bits.specs.declared.Found.{Found}
 use Rattle.bits.specs.declared.Found.the-variants.{At, Nothing}
 use Rattle.places.specs.Store.{Kind, blk, val, usg, blockUses, useSets, Con, State, Live}
 use Rattle.places.specs.View.{num, view}
-use Rattle.places.specs.Plain.{defBy}
-use Rattle.places.specs.Hist.{hist, ruleState, meaning}
+use Rattle.places.specs.Hist.{defBy, hist, ruleState, meaning}
 use Rattle.places.specs.Alias.{RState}
 use Rattle.places.specs.Roles.{Unnamed}
 use Rattle.places.proofs.RuleNames as names

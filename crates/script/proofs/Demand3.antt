@@ -3,59 +3,40 @@
 use mathlib.Core.Path.{_≡_, refl, sym, ap, _∙_, subst}
 use mathlib.Core.Logic.{_⊎_, inl, inr, by-cases}
 use mathlib.Core.List.{List, [], _∷_, _++_}
-use Prim.Native.Nat.{ℕ, zero, suc, _+_, _*_, _/_, _≤_, _<_}
+use Prim.Native.Nat.{ℕ, _*_, _/_}
 use native.Mathlib.Decide.{decLt}
 use native.Mathlib.Omega.{arith}
-use lib.ListN.{length, getD, take, drop}
-use lib.Seq.{getD-take}
-use Rattle.seqs.specs.Split.{split}
-use Rattle.edit.specs.Record.{Cut, nothing, broken, whole, cut, Read, refused, asks, read}
-use Rattle.edit.specs.Answer.{Reply, refuse, numbers-of, reply-at}
+use lib.ListN.{length, drop}
+use Rattle.edit.specs.Record.{Cut, nothing, broken, whole, cut, Read, refused, asks}
+use Rattle.edit.specs.Answer.{Reply, numbers-of}
 use Rattle.edit.specs.declared.Answer.{Answer}
 use Rattle.rules.specs.History.{Five}
 use Rattle.rules.specs.State.{start}
-use Rattle.rules.specs.Step.{obey, perform, step-cut, step}
+use Rattle.rules.specs.Step.{obey, step-cut, step}
 use Rattle.rules.specs.Script.{run}
 use Rattle.rules.specs.Calls.{Call}
 use Rattle.rules.specs.Told.{recall}
-use Rattle.rules.specs.Demand.{Demand3}
-use Rattle.rules.specs.Demand.{view as rule-view}
+use Rattle.rules.specs.Demand.{Demand3, view as rule-view}
 use Rattle.rules.specs.Alike.{Alike}
 use Rattle.rules.specs.Sound.{Sound as RuleSound}
 use Rattle.rules.specs.Refine.{AsStep, EditAway, AsRun, ScriptAway, Refines}
 use Rattle.rules.proofs.Refined.{demand-3-of-memory, memory-sound}
 use Rattle.places.specs.Alias.{RState}
 use Rattle.context.specs.declared.Layout.{Layout}
-use Rattle.context.specs.Memory.{part, SoundStore, layoutOf}
+use Rattle.context.specs.Memory.{SoundStore, layoutOf}
 use Rattle.context.specs.Performed.{abs, Performed}
-use Rattle.context.specs.Start.{fiveOf, StartIs}
-use Rattle.script.specs.Calls.{SoundWords, single, Away, Judged, Answered, Edited, flat, Ended, RanOn, Scripted}
+use Rattle.context.proofs.Checking.{headed}
+use Rattle.script.specs.Calls.{SoundWords, single, Away, Answered, flat, Ended, RanOn}
 use Rattle.script.specs.See.{see}
 use Rattle.script.specs.Runs.{replies-in, state-of, Started, EditCall, ScriptCall, Runs}
 use Rattle.script.proofs.Alike.{alike-at}
 
 -- ---- the header names the capacities
 
-layout-eq : (l : Layout) {a b c d e : ℕ} → a ≡ l .ops → b ≡ l .blocks → c ≡ l .regions → d ≡ l .values → e ≡ l .uses
-    → _≡_ {A = Layout} (record { ops = a; blocks = b; regions = c; values = d; uses = e }) l
-layout-eq l {a} {b} {c} {d} {e} p q r s t =
-    ap (λ (x : ℕ). record { ops = x; blocks = b; regions = c; values = d; uses = e }) p
-    ∙ ap (λ (x : ℕ). record { ops = l .ops; blocks = x; regions = c; values = d; uses = e }) q
-    ∙ ap (λ (x : ℕ). record { ops = l .ops; blocks = l .blocks; regions = x; values = d; uses = e }) r
-    ∙ ap (λ (x : ℕ). record { ops = l .ops; blocks = l .blocks; regions = l .regions; values = x; uses = e }) s
-    ∙ ap (λ (x : ℕ). record { ops = l .ops; blocks = l .blocks; regions = l .regions; values = l .values; uses = x }) t
-
-pub headed-is : {l : Layout} (m : List ℕ) → part l m 0 ≡ l .ops ∷ l .blocks ∷ l .regions ∷ l .values ∷ l .uses ∷ [] → layoutOf m ≡ l
-unfolding split
-headed-is {l} m h =
-    let word : (i : ℕ) → i < 5 → getD m i 0 ≡ getD (l .ops ∷ l .blocks ∷ l .regions ∷ l .values ∷ l .uses ∷ []) i 0 =
-    λ i k. sym (getD-take 5 m i 0 k) ∙ ap (λ (z : List ℕ). getD z i 0) h in
-    layout-eq l (word 0 (omega arith)) (word 1 (omega arith)) (word 2 (omega arith)) (word 3 (omega arith)) (word 4 (omega arith))
-
 -- a sound store of these capacities is a sound memory, and stands for the same state
 pub sound-words : {l : Layout} {m : List ℕ} → SoundStore l m → SoundWords m × (state-of m ≡ abs l m)
 unfolding state-of
-sound-words {l} {m} S = let e = headed-is m (S .well .head) in (subst (λ (k : Layout). SoundStore k m) (sym e) S, ap (λ (k : Layout). abs k m) e)
+sound-words {l} {m} S = let e = sym (headed (record { head = S .well .head })) in (subst (λ (k : Layout). SoundStore k m) (sym e) S, ap (λ (k : Layout). abs k m) e)
 
 -- ---- start
 

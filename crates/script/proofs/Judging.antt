@@ -1,13 +1,13 @@
 -- The order of a single edit's refusals, and of a script's: from the record, then 6, then 22, then the store. Assumes nothing.
 use mathlib.Core.Path.{_≡_, refl, sym, ap, _∙_, subst}
 use mathlib.Core.List.{List, [], _∷_}
-use Prim.Native.Nat.{ℕ, zero, suc, _+_, _-_, _*_, _≤_, _<_}
+use Prim.Native.Nat.{ℕ, _-_, _≤_, _<_}
 use native.Mathlib.Omega.{arith}
 use lib.ListN.{length, take, drop, replicate, length-drop, length-replicate}
 use lib.Seq.{take-length}
-use Rattle.edit.specs.Record.{Edit, Cut, nothing, broken, whole, cut, Read, refused, asks, read}
-use Rattle.edit.specs.Taken.{kind-of, fields-of, record-at, cut-of, Next-cut, edit-of, read-of, Passed, Taken}
-use Rattle.edit.specs.Answer.{refuse, numbers-of}
+use Rattle.edit.specs.Record.{Edit, whole, cut, Read, refused, asks, read}
+use Rattle.edit.specs.Taken.{kind-of, fields-of, record-at, cut-of, Next-cut, edit-of, read-of, Taken}
+use Rattle.edit.specs.Answer.{numbers-of}
 use Rattle.edit.specs.declared.Answer.{Answer}
 use Rattle.edit.specs.declared.Answer.the-variants as Answer
 use Rattle.edit.specs.declared.Next.{Next}
@@ -15,14 +15,13 @@ use Rattle.edit.specs.declared.Next.the-variants.{Nothing, Broken, Whole}
 use Rattle.edit.specs.declared.Reading.{Reading}
 use Rattle.edit.specs.declared.Reading.the-variants as Reading
 use Rattle.context.specs.declared.Layout.{Layout}
-use Rattle.context.specs.Layout.{sizes, total}
-use Rattle.context.specs.Memory.{part, SoundStore, layoutOf}
+use Rattle.context.specs.Memory.{SoundStore, layoutOf}
 use Rattle.context.specs.Checked.{Headed}
+use Rattle.context.proofs.Checking.{headed}
 use Rattle.edits.specs.Scratch.{Scratch, PerformedWith}
 use Rattle.script.specs.declared.Ran.{Ran}
-use Rattle.script.specs.Calls.{SoundWords, single, Away, Judged, Answered, AnsweredWith, Edited, Ended, RanOn, Scripted}
+use Rattle.script.specs.Calls.{SoundWords, single, Away, Answered, AnsweredWith, Edited, Ended, RanOn, Scripted}
 use Rattle.script.specs.Records.{RanWith}
-use Rattle.script.proofs.Demand3.{headed-is}
 
 -- turned away, with this refusal
 away : (n : ℕ) (m : List ℕ) → Away n m m (Answer.Refused n)
@@ -35,7 +34,7 @@ header m S = omega (arith, S .well .fits)
 
 module _ {l : Layout} (m : List ℕ) (H : Headed l m) where
   same-layout : layoutOf m ≡ l
-  same-layout = headed-is m (H .head)
+  same-layout = sym (headed H)
 
   pub sound-by : SoundWords m → SoundStore l m
   sound-by S = subst (λ (k : Layout). SoundStore k m) same-layout S

@@ -22,8 +22,7 @@ use Rattle.rules.proofs.Inside.{rising-once}
 use Rattle.rules.proofs.Sums.{where-found, where-gone}
 use Rattle.places.specs.Store.{Kind, op, blk, reg, val, usg, Role, valueUses, blockUses, results, arguments, ops, blocks, Fam, useSets, nodeOf, holderOf, fam, Con, State, Thing-dec, alive, Live, Link, UseHeld, Sound, up}
 use Rattle.places.specs.View.{num, homeBy, recOf, view}
-use Rattle.places.specs.Plain.{defOf, tabled}
-use Rattle.places.specs.Hist.{opOf, blockOf, useOf, hist, ordersOf}
+use Rattle.places.specs.Hist.{defOf, tabled, opOf, blockOf, useOf, hist, ordersOf}
 use Rattle.places.specs.Roles.{Unnamed, slotRole, memberKind, containerKind}
 use Rattle.places.proofs.Bits.{bit, bit-member, tabled-view, count-nums}
 use Rattle.places.proofs.Cut.{pick-1, zero-or}

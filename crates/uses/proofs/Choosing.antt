@@ -21,7 +21,7 @@ use Rattle.context.specs.Memory.{con, decode, stateOf, SoundStore, HomeIs, Firs
 use Rattle.context.specs.Reading.{NumberIs, NextIs}
 use Rattle.context.proofs.Places.{place<}
 use Rattle.uses.specs.Retarget.{blockBy, BlockOf, astray, StrayIs, standsIn, Chosen}
-use Rattle.uses.proofs.Cursor.{row, ahead, At, first-at, here, at-end, next-at, less}
+use Rattle.context.proofs.Cursor.{row, ahead, At, first-at, here, at-end, next-at, less}
 
 pub not-true : (b : Bool) → not b ≡ true → b ≡ false
 not-true true e = absurd (let z : _≡_ {A = ℕ} 0 1 = cc in omega arith)

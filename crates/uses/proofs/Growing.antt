@@ -25,7 +25,7 @@ use Rattle.context.specs.Memory.{con, stateOf, partsOf, SoundStore, LengthIs, r
 use Rattle.context.specs.Steps.{CanBear, BorneUse}
 use Rattle.context.specs.Performed.{Performed}
 use Rattle.uses.specs.Look.{SlotAt, DefAt, GrowIs}
-use Rattle.uses.proofs.Performing.{refuses, accepts}
+use Rattle.context.proofs.Performing.{refuses, accepts}
 
 pub cap-is : (l : Layout) (m : List ℕ) → stateOf l m .tab usg .cap ≡ l .uses
 unfolding store partsOf

@@ -1,11 +1,9 @@
 pub mod Looking
-pub mod Performing
 pub mod Growing
 pub mod Taking
 pub mod Moving
 pub mod Replacing
 pub mod Placing
-pub mod Cursor
 pub mod Choosing
 pub mod Retargeting
 pub mod RetargetEdit

@@ -34,7 +34,7 @@ use Rattle.context.specs.Memory.{con, stateOf, SoundStore, Finds, HomeIs}
 use Rattle.context.specs.Steps.{CanMove, Moved}
 use Rattle.context.specs.Performed.{Performed}
 use Rattle.uses.specs.Look.{DefAt}
-use Rattle.uses.proofs.Performing.{refuses, accepts}
+use Rattle.context.proofs.Performing.{refuses, accepts}
 use Rattle.uses.proofs.Looking.{same-row}
 use Rattle.uses.proofs.Taking.{held-at}
 

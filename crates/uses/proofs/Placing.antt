@@ -40,7 +40,7 @@ use Rattle.context.specs.Steps.{CanMove, Moved}
 use Rattle.context.specs.Performed.{Performed}
 use Rattle.uses.specs.Look.{DefAt}
 use Rattle.uses.specs.Some.{Between, PlacedOne, PlacedAll}
-use Rattle.uses.proofs.Performing.{accepts}
+use Rattle.context.proofs.Performing.{accepts}
 use Rattle.uses.proofs.Taking.{held-at}
 use Rattle.uses.proofs.Looking.{names-some, same-row}
 

@@ -29,7 +29,7 @@ use Rattle.context.specs.Reading.{NthIs, NextNumberIs}
 use Rattle.context.specs.Steps.{EndedUse, CanBear, BorneUse}
 use Rattle.context.specs.Performed.{Performed}
 use Rattle.uses.specs.Look.{SlotAt, DefAt}
-use Rattle.uses.proofs.Performing.{refuses, accepts}
+use Rattle.context.proofs.Performing.{refuses, accepts}
 use Rattle.uses.proofs.Growing.{cap-is}
 
 module _ {l : Layout} {m : List ℕ} (S : SoundStore l m) (sl : Slot) (n i d s k : ℕ) (A : SlotAt l m sl n s) (B : DefAt l m sl d k) (x : ℕ) (X : LengthIs l slots s m x) where

@@ -31,7 +31,7 @@ use Rattle.context.specs.Memory.{con, stateOf, SoundStore}
 use Rattle.context.specs.Performed.{Performed}
 use Rattle.uses.specs.Look.{DefAt}
 use Rattle.uses.specs.Retarget.{astray, StrayIs, RetargetedAll}
-use Rattle.uses.proofs.Performing.{refuses, accepts}
+use Rattle.context.proofs.Performing.{refuses, accepts}
 use Rattle.uses.proofs.Looking.{names-retarget}
 
 pub retarget-edit : (fs : List ℕ) (a b : ℕ) → a ≡ getD fs 0 0 → b ≡ getD fs 1 0 → retarget-some a b (drop 2 fs) ≡ edit-of 35 fs

@@ -30,7 +30,7 @@ use Rattle.uses.specs.Some.{Between}
 use Rattle.uses.specs.Retarget.{standsIn, RetargetedOne, RetargetedAll}
 use Rattle.uses.proofs.Looking.{same-row}
 use Rattle.uses.proofs.Placing.{num-move, def-kept}
-use Rattle.uses.proofs.Cursor.{row, ahead, At, Here, first-at, here, at-end, next-code, next-at, less}
+use Rattle.context.proofs.Cursor.{row, ahead, At, Here, first-at, here, at-end, next-code, next-at, less}
 
 -- ---- a list without one that stands in it once
 

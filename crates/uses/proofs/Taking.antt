@@ -27,7 +27,7 @@ use Rattle.context.specs.Reading.{NthIs}
 use Rattle.context.specs.Steps.{EndedUse}
 use Rattle.context.specs.Performed.{Performed}
 use Rattle.uses.specs.Look.{SlotAt, DefNumberIs, Taken}
-use Rattle.uses.proofs.Performing.{refuses, accepts}
+use Rattle.context.proofs.Performing.{refuses, accepts}
 
 -- ---- the use at an index, and its definition
 

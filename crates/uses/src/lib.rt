@@ -108,7 +108,7 @@ pub fn push_use(m: &mut [u32], l: Layout, sl: usize, number: u32, def: u32) -> A
     if c != 0 {
         return Answer::Refused(c);
     }
-    context::birth_use(m, l, s, n, d);
+    context::value::birth_use(m, l, s, n, d);
     Answer::Accepted(n as u32, 0)
 }
 
@@ -131,7 +131,7 @@ pub fn insert_use(m: &mut [u32], l: Layout, sl: usize, number: u32, index: u32, 
     if c != 0 {
         return Answer::Refused(c);
     }
-    context::birth_use(m, l, s, i, d);
+    context::value::birth_use(m, l, s, i, d);
     Answer::Accepted(0, 0)
 }
 
@@ -145,7 +145,7 @@ pub fn take_use(m: &mut [u32], l: Layout, s: usize, i: usize) -> u32
     let u = context::nth_of(m, l, 0, s, i);
     let h = context::home_of(m, l, 1, u);
     let n = def_number(m, l, h - 1);
-    context::end_use(m, l, u);
+    context::value::end_use(m, l, u);
     n
 }
 
@@ -215,7 +215,7 @@ pub fn move_use_to(
     if h != d + 1 {
         return Answer::Refused(11);
     }
-    context::move_use(m, l, u, e);
+    context::value::move_use(m, l, u, e);
     Answer::Accepted(0, 0)
 }
 
@@ -242,8 +242,8 @@ pub fn replace_use(m: &mut [u32], l: Layout, sl: usize, number: u32, index: u32,
         return Answer::Refused(21);
     }
     let u = context::nth_of(m, l, 0, s, i);
-    context::end_use(m, l, u);
-    context::birth_use(m, l, s, i, d);
+    context::value::end_use(m, l, u);
+    context::value::birth_use(m, l, s, i, d);
     Answer::Accepted(0, 0)
 }
 
@@ -261,7 +261,7 @@ pub fn place_one(m: &mut [u32], l: Layout, d: usize, e: usize, number: u32)
     if set != d + 1 {
         return;
     }
-    context::move_use(m, l, u, e);
+    context::value::move_use(m, l, u, e);
 }
 
 // The listed uses move from the set `d` to the set `e`.
@@ -366,7 +366,7 @@ fn retarget_one(m: &mut [u32], l: Layout, e: usize, u: usize, rec: &[u8])
     if !c {
         return;
     }
-    context::move_use(m, l, u, e);
+    context::value::move_use(m, l, u, e);
 }
 
 // The uses in the set `d` at operations of listed blocks move to the set `e`.

@@ -26,7 +26,7 @@ use Rattle.context.specs.Memory.{con, stateOf, partsOf, SoundStore, LengthIs, r
 use Rattle.context.specs.Steps.{CanBearValue, BorneValue}
 use Rattle.context.specs.Performed.{Performed}
 use Rattle.values.specs.Look.{ValuesAt, GrowIs}
-use Rattle.values.proofs.Performing.{refuses, accepts}
+use Rattle.context.proofs.Performing.{refuses, accepts}
 
 pub cap-is : (l : Layout) (m : List ℕ) → stateOf l m .tab val .cap ≡ l .values
 unfolding store partsOf

@@ -1,4 +1,3 @@
-pub mod Performing
 pub mod Looking
 pub mod Growing
 pub mod Taking

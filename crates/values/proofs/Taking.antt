@@ -25,7 +25,7 @@ use Rattle.context.specs.declared.Layout.{Layout}
 use Rattle.context.specs.Memory.{con, stateOf, SoundStore, LengthIs}
 use Rattle.context.specs.Performed.{Performed}
 use Rattle.values.specs.Look.{ValuesAt, TakenValue}
-use Rattle.values.proofs.Performing.{refuses, accepts}
+use Rattle.context.proofs.Performing.{refuses, accepts}
 
 pub names-remove : (w : Member) (n i : ℕ) → named (remove-value w n i) ≡ member-named w n ∷ []
 unfolding named

@@ -69,7 +69,7 @@ pub fn push_value(m: &mut [u32], l: Layout, w: usize, owner: u32, ty: u32) -> An
     if c != 0 {
         return Answer::Refused(c);
     }
-    context::birth_value(m, l, k, n, ty);
+    context::value::birth_value(m, l, k, n, ty);
     Answer::Accepted(n as u32, 0)
 }
 
@@ -88,7 +88,7 @@ pub fn insert_value(m: &mut [u32], l: Layout, w: usize, owner: u32, index: u32, 
     if c != 0 {
         return Answer::Refused(c);
     }
-    context::birth_value(m, l, k, i, ty);
+    context::value::birth_value(m, l, k, i, ty);
     Answer::Accepted(0, 0)
 }
 
@@ -104,7 +104,7 @@ pub fn take_value(m: &mut [u32], l: Layout, k: usize, i: usize) -> u32
     if u != 0 {
         return 13;
     }
-    context::end_value(m, l, p);
+    context::value::end_value(m, l, p);
     0
 }
 

@@ -31,8 +31,10 @@ use Rattle.places.proofs.Meaning.{drop-meaning, drop-reply}
 use Rattle.context.specs.declared.Layout.{Layout}
 use Rattle.context.specs.Memory.{part, stateOf, SoundStore, Finds}
 use Rattle.context.specs.Performed.{abs, Performed}
+use Rattle.context.specs.Layout.{kindOf}
 use Rattle.walk.specs.declared.Walked.{Walked}
-use Rattle.walk.specs.Drop.{CanDrop, Dropped}
+use Rattle.walk.specs.declared.Tally.{Tally}
+use Rattle.walk.specs.Drop.{CanDrop, Dropped, zeros, CanTally, Tallied}
 use Rattle.bits.specs.declared.Found.{Found}
 use Rattle.bits.specs.declared.Found.the-variants.{At, Nothing}
 use Rattle.context.specs.Reading.{LiveIs}
@@ -120,6 +122,14 @@ module _ {l : Layout} {m : List ℕ} (S : SoundStore l m) where
         uses = omega (arith, N .small, S .well .caps .ops);
       }
 
+  -- a tally of zeros has room
+  pub may-tally : (k p : ℕ) → k ≤ 2 → Live P (kindOf k, p) → CanTally l k p zeros m
+  may-tally k p h v = record { kind = h; store = S; live = v; freed = omega arith; ended = omega arith }
+
+  -- what the walk counted from nothing raises the tally
+  pub tallied : {m′ : List ℕ} {w r : Walked} (x : Thing) (t : Tally) → w .freed ≡ 0 → w .ended ≡ 0 → Dropped l x w m m′ r → Tallied l x t m m′ (record { freed = t .freed + r .freed; ended = t .ended + r .ended })
+  tallied x t f e D = record { store = D .store; rest = D .rest; state = D .state; freed = omega (arith, D .numbers .freed, f); ended = omega (arith, D .numbers .ended, e) }
+
   -- a live name is not refused for itself
   pub passes : (e : Edit) (x : Thing) (n : ℕ) → kindCode (x .0) ≤ 2 → Live P x → num P x ≡ n → named e ≡ R.thing-named (thing-named (x .0) n) ∷ [] → refusal-of (abs l m) e ≡ from-state (abs l m) e
   unfolding refusal-of abs meaning ruleState or-else
@@ -143,16 +153,20 @@ module _ {l : Layout} {m : List ℕ} (S : SoundStore l m) where
   unfolding or-else absent kindCode
   no-region e n d names = refused S e 8 (stops e reg n (omega arith) d names)
 
-  -- 36 to 38
-  pub did-drop : {m′ : List ℕ} {w r : Walked} (x : Thing) (n : ℕ) → kindCode (x .0) ≤ 2 → Live P x → num P x ≡ n → w .ended ≡ 0 → Dropped l x w m m′ r → Performed l (drop-uses (thing-named (x .0) n)) m m′ (Accepted 0 (r .ended))
-  unfolding abs numbers-of from-state named
-  did-drop {m′} {w} {r} x n k lx q z D =
-      subst (λ (i : ℕ). Performed l (drop-uses (thing-named (x .0) i)) m m′ (Accepted 0 (r .ended))) q
-      (accepted (drop-uses (theThing P x)) (Accepted 0 (r .ended)) (D .store)
-      (passes (drop-uses (theThing P x)) x (num P x) k lx refl refl)
-      (D .rest)
-      (ap meaning (D .state) ∙ drop-meaning (S .sound) x lx k)
-      (ap (λ (Q : State). answer (drop-uses (theThing P x)) (meaning P) (meaning Q .history)) (D .state) ∙ drop-reply (S .sound) x lx k ∙ ap (found 0) counted))
-    where
-      counted : length (dropList P x) ≡ r .ended
-      counted = omega (arith, D .numbers .ended, z)
+  -- 36 to 38: the thing that the look-up found is dropped
+  module _ (n p : ℕ) {a : Found} where
+    pub may-drop : (k : ℕ) → k ≤ 2 → Finds P (kindOf k) n a → a ≡ At p → CanTally l k p zeros m
+    may-drop k h F e = may-tally k p h (live-at P (kindOf k) n p a F e .0)
+
+    pub did-drop : {m′ : List ℕ} {r : Tally} (k : Kind) → kindCode k ≤ 2 → Finds P k n a → a ≡ At p → Tallied l (k, p) zeros m m′ r → Performed l (drop-uses (thing-named k n)) m m′ (Accepted 0 (r .ended))
+    unfolding abs numbers-of from-state named
+    did-drop {m′} {r} k h F e D =
+        subst (λ (i : ℕ). Performed l (drop-uses (thing-named k i)) m m′ (Accepted 0 (r .ended))) (live-at P k n p a F e .1)
+        (accepted (drop-uses (theThing P (k, p))) (Accepted 0 (r .ended)) (D .store)
+        (passes (drop-uses (theThing P (k, p))) (k, p) (num P (k, p)) h (live-at P k n p a F e .0) refl refl)
+        (D .rest)
+        (ap meaning (D .state) ∙ drop-meaning (S .sound) (k, p) (live-at P k n p a F e .0) h)
+        (ap (λ (Q : State). answer (drop-uses (theThing P (k, p))) (meaning P) (meaning Q .history)) (D .state) ∙ drop-reply (S .sound) (k, p) (live-at P k n p a F e .0) h ∙ ap (found 0) counted))
+      where
+        counted : length (dropList P (k, p)) ≡ r .ended
+        counted = omega (arith, D .ended)

@@ -21,7 +21,8 @@ use Rattle.context.specs.Reading.{listOf, NextIs}
 use Rattle.context.proofs.Places.{place<}
 use Rattle.walk.specs.declared.Walked.{Walked}
 use Rattle.walk.specs.Drop.{operations, CanDrop, Counted, OwnDropped, Dropped}
-use Rattle.walk.proofs.Nested.{operations-eq, from, from-code, Single, single, kid-live}
+use Rattle.context.proofs.Cursor.{from, from-code, Single, single, kid-live}
+use Rattle.walk.proofs.Nested.{operations-eq}
 use Rattle.walk.proofs.DropLaws.{Going, reached, endedIn, Next, begins, next, reads, steady, same-ops, same-ended, enough, goes-on, more-reached, more-ended, todo-is, ends, all-reached, all-ended, region-own, block-own, own-sound, own-none, own-rest, own-ops, own-ended, after-kids}
 
 -- ---- what lies directly in a thing is a list of one family

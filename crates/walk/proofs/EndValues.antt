@@ -24,8 +24,7 @@ use Rattle.context.specs.Steps.{EndedValue, Unused}
 use Rattle.context.proofs.Families.{con-back}
 use Rattle.context.proofs.Places.{place<}
 use Rattle.walk.specs.Erase.{CanErase, CanEndValues, EndedValues, OwnEnded}
-use Rattle.walk.proofs.Cursor.{row, At, Here, first-at, here, at-end}
-use Rattle.walk.proofs.Nested.{single}
+use Rattle.context.proofs.Cursor.{row, At, Here, first-at, here, at-end, single}
 use Rattle.walk.proofs.Strays.{con-results, con-arguments}
 use Rattle.walk.proofs.EraseLaws.{to-free, region-none}
 

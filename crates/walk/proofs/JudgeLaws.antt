@@ -30,8 +30,7 @@ use Rattle.context.specs.Reading.{listOf, lastCode, NextIs, LastIs, TagIs, Numb
 use Rattle.context.proofs.Families.{con-back}
 use Rattle.context.proofs.Places.{place<}
 use Rattle.walk.specs.Judge.{onOp, alone, userPlaced, userLeads, UserIs, BlockAlone}
-use Rattle.walk.proofs.Nested.{Single, single}
-use Rattle.walk.proofs.Cursor.{row, At, Here, here, at-end, next-at, next-todo}
+use Rattle.context.proofs.Cursor.{row, At, Here, here, at-end, next-at, next-todo, Single, single}
 use Rattle.walk.proofs.OwnUses.{con-successors}
 
 -- ---- booleans

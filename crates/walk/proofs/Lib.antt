@@ -2,8 +2,8 @@ pub mod Nested
 pub mod DropLaws
 pub mod DropWalk
 pub mod Asked
+pub mod Lending
 pub mod OwnUses
-pub mod Cursor
 pub mod JudgeLaws
 pub mod Search
 pub mod VerifyLaws

@@ -17,7 +17,7 @@ use Rattle.context.specs.declared.Layout.{Layout}
 use Rattle.context.specs.Memory.{con, stateOf, SoundStore, FirstIs}
 use Rattle.context.specs.Reading.{NextIs}
 use Rattle.walk.specs.Judge.{onOp, userPlaced, userLeads}
-use Rattle.walk.proofs.Cursor.{row, At, Here, first-at, here, at-end, next-at, next-todo}
+use Rattle.context.proofs.Cursor.{row, At, Here, first-at, here, at-end, next-at, next-todo}
 use Rattle.walk.proofs.JudgeLaws.{any-hit, any-miss, any-over, met-hit, met-miss, met-over, targets, users}
 
 pub nay : (b : Bool) → not b ≡ true → b ≡ false

@@ -7,8 +7,7 @@ use Prim.Native.Nat.{ℕ, zero, suc, _+_, _-_, _<_, _≤_}
 use lib.ListN.{length}
 use Rattle.places.specs.Store.{op, blk, reg, val, usg, Thing, State, Live, Sound}
 use Rattle.places.specs.View.{Rec, num, view}
-use Rattle.places.specs.Plain.{tabled}
-use Rattle.places.specs.Hist.{bornOf, hist, ordersOf, ruleState, meaning, thing-named, theThing}
+use Rattle.places.specs.Hist.{tabled, bornOf, hist, ordersOf, ruleState, meaning, thing-named, theThing}
 use Rattle.places.specs.Alias.{RThing, RState}
 use Rattle.places.specs.Walk.{cutBy, cutAll, among}
 use Rattle.rules.specs.Table.{Table, keep-keys, number}

@@ -20,7 +20,7 @@ use Rattle.context.specs.declared.Layout.{Layout}
 use Rattle.context.specs.Memory.{con, stateOf, SoundStore}
 use Rattle.walk.specs.Judge.{onOp, alone, OpJudged, BlockJudged, RegionJudged}
 use Rattle.walk.proofs.DropWalk.{Nests, list-of}
-use Rattle.walk.proofs.Cursor.{row, At, Here, here}
+use Rattle.context.proofs.Cursor.{row, At, Here, here}
 use Rattle.walk.proofs.JudgeLaws.{block-not, block-then, op-not, op-then}
 use Rattle.walk.proofs.Search.{Meeting, met, none-met, nothing, regions-row, ops-row, region-is}
 

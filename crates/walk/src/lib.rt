@@ -13,7 +13,7 @@ ghost use Rattle.edit.specs.Answer.{numbers-of};
 ghost use Rattle.context.specs.Memory.{stateOf, SoundStore};
 ghost use Rattle.context.specs.Performed.{Performed};
 ghost use Rattle.edit.specs.Record.{the-operation, the-block, the-region, drop-uses, erase-operation, erase-block, erase-region, verdict};
-ghost use Rattle.walk.specs.Drop.{CanDrop, OwnDropped, Dropped};
+ghost use Rattle.walk.specs.Drop.{CanDrop, OwnDropped, Dropped, zeros, CanTally, Tallied};
 ghost use Rattle.walk.specs.Judge.{userPlaced, userLeads, UserIs, BlockAlone, OpJudged, BlockJudged, RegionJudged};
 ghost use Prim.Native.Nat.{_≤_, _<_};
 ghost use lib.ListN.{length};
@@ -33,13 +33,19 @@ pub struct Walked {
     pub ended: usize,
 }
 
+// What an edit answers with: operations freed and uses ended.
+pub struct Tally {
+    pub freed: u32,
+    pub ended: u32,
+}
+
 // The operation's own uses end.
 fn drop_own(m: &mut [u32], l: Layout, o: usize, w: Walked) -> Walked
     requires { ⌜ CanDrop l (op, o) w (now m) ⌝ }
     ensures { λ r. ⌜ OwnDropped l (op, o) w (now (m .entry)) (now (m .exit)) r ⌝ }
 {
-    let a = context::drop_slots(m, l, 2 * o);
-    let b = context::drop_slots(m, l, 2 * o + 1);
+    let a = context::operation::drop_slots(m, l, 2 * o);
+    let b = context::operation::drop_slots(m, l, 2 * o + 1);
     Walked {
         left: w.left - 1,
         freed: w.freed + 1,
@@ -89,6 +95,62 @@ pub fn drop_block(m: &mut [u32], l: Layout, b: usize, w: Walked) -> Walked
     t
 }
 
+// All uses in the thing of the kind `k` at `p` end.
+fn drop_inside(m: &mut [u32], l: Layout, k: usize, p: usize, w: Walked) -> Walked
+    requires { ⌜ k ≤ 2 ⌝ }
+    requires { ⌜ CanDrop l (kindOf k, p) w (now m) ⌝ }
+    ensures { λ r. ⌜ Dropped l (kindOf k, p) w (now (m .entry)) (now (m .exit)) r ⌝ }
+{
+    if k == 0 {
+        return drop_operation(m, l, p, w);
+    }
+    if k == 1 {
+        return drop_block(m, l, p, w);
+    }
+    drop_region(m, l, p, w)
+}
+
+// The same, and the tally is raised by what the walk counted.
+fn drop_raised(m: &mut [u32], l: Layout, k: usize, p: usize, t: Tally) -> Tally
+    requires { ⌜ CanTally l k p t (now m) ⌝ }
+    ensures { λ r. ⌜ Tallied l (kindOf k, p) t (now (m .entry)) (now (m .exit)) r ⌝ }
+{
+    let n = context::live_count(m, l, 0);
+    let w = drop_inside(
+        m,
+        l,
+        k,
+        p,
+        Walked {
+            left: n,
+            freed: 0,
+            ended: 0,
+        },
+    );
+    Tally {
+        freed: t.freed + w.freed as u32,
+        ended: t.ended + w.ended as u32,
+    }
+}
+
+// The same with the tally lent.
+fn drop_counted(m: &mut [u32], l: Layout, k: usize, p: usize, t: &mut Tally)
+    requires { ⌜ CanTally l k p (now t) (now m) ⌝ }
+    ensures { λ _. ⌜ Tallied l (kindOf k, p) (now (t .entry)) (now (m .entry)) (now (m .exit)) (now (t .exit)) ⌝ }
+{
+    *t = drop_raised(m, l, k, p, *t);
+}
+
+// All uses in the thing end: a tally of zeros is lent, and handed back as it was raised.
+fn drop_tallied(m: &mut [u32], l: Layout, k: usize, p: usize) -> Tally
+    requires { ⌜ CanTally l k p zeros (now m) ⌝ }
+    ensures { λ r. ⌜ Tallied l (kindOf k, p) zeros (now (m .entry)) (now (m .exit)) r ⌝ }
+{
+    let mut t = Tally { freed: 0, ended: 0 };
+    drop_counted(m, l, k, p, &mut t);
+    t
+}
+
 // Edit 36: all uses in the operation with this number end.
 pub fn drop_operation_uses(m: &mut [u32], l: Layout, number: u32) -> Answer
     requires { ⌜ SoundStore l (now m) ⌝ }
@@ -98,18 +160,8 @@ pub fn drop_operation_uses(m: &mut [u32], l: Layout, number: u32) -> Answer
     let Found::At(o) = f else {
         return Answer::Refused(7);
     };
-    let n = context::live_count(m, l, 0);
-    let t = drop_operation(
-        m,
-        l,
-        o,
-        Walked {
-            left: n,
-            freed: 0,
-            ended: 0,
-        },
-    );
-    Answer::Accepted(0, t.ended as u32)
+    let t = drop_tallied(m, l, 0, o);
+    Answer::Accepted(0, t.ended)
 }
 
 // Edit 37: all uses in the block with this number end.
@@ -121,18 +173,8 @@ pub fn drop_block_uses(m: &mut [u32], l: Layout, number: u32) -> Answer
     let Found::At(b) = f else {
         return Answer::Refused(8);
     };
-    let n = context::live_count(m, l, 0);
-    let t = drop_block(
-        m,
-        l,
-        b,
-        Walked {
-            left: n,
-            freed: 0,
-            ended: 0,
-        },
-    );
-    Answer::Accepted(0, t.ended as u32)
+    let t = drop_tallied(m, l, 1, b);
+    Answer::Accepted(0, t.ended)
 }
 
 // Edit 38: all uses in the region with this number end.
@@ -144,18 +186,8 @@ pub fn drop_region_uses(m: &mut [u32], l: Layout, number: u32) -> Answer
     let Found::At(p) = f else {
         return Answer::Refused(9);
     };
-    let n = context::live_count(m, l, 0);
-    let t = drop_region(
-        m,
-        l,
-        p,
-        Walked {
-            left: n,
-            freed: 0,
-            ended: 0,
-        },
-    );
-    Answer::Accepted(0, t.ended as u32)
+    let t = drop_tallied(m, l, 2, p);
+    Answer::Accepted(0, t.ended)
 }
 
 // Whether the operation at the place `o` is a terminator.
@@ -163,7 +195,7 @@ fn is_terminator(m: &[u32], l: Layout, o: usize) -> bool
     requires { ⌜ SoundStore l (now m) × Live (stateOf l (now m)) (op, o) ⌝ }
     ensures { λ r. ⌜ r ≡ terminates (stateOf l (now (m .entry))) (op, o) ⌝ }
 {
-    let f = context::flags_of(m, l, o);
+    let f = context::operation::flags_of(m, l, o);
     f % 2 == 1
 }
 
@@ -172,7 +204,7 @@ fn may_lack(m: &[u32], l: Layout, o: usize) -> bool
     requires { ⌜ SoundStore l (now m) × Live (stateOf l (now m)) (op, o) ⌝ }
     ensures { λ r. ⌜ r ≡ lackable (stateOf l (now (m .entry))) (op, o) ⌝ }
 {
-    let f = context::flags_of(m, l, o);
+    let f = context::operation::flags_of(m, l, o);
     2 <= f
 }
 
@@ -639,7 +671,7 @@ fn end_values(m: &mut [u32], l: Layout, c: usize)
 {
     let mut k = context::first_of(m, l, 2, c);
     while k != 0 {
-        context::end_value(m, l, k - 1);
+        context::value::end_value(m, l, k - 1);
         k = context::first_of(m, l, 2, c);
     }
 }
@@ -691,14 +723,14 @@ fn end_thing(m: &mut [u32], l: Layout, k: usize, p: usize)
     ensures { λ _. ⌜ Ended l (kindOf k, p) (now (m .entry)) (now (m .exit)) ⌝ }
 {
     if k == 0 {
-        context::end_operation(m, l, p);
+        context::operation::end_operation(m, l, p);
         return;
     }
     if k == 1 {
-        context::end_block(m, l, p);
+        context::basic_block::end_block(m, l, p);
         return;
     }
-    context::end_region(m, l, p);
+    context::region::end_region(m, l, p);
 }
 
 // The thing of the kind `k` at `p` ends, with all that lies in it: its values, then what lies in it, then itself.
@@ -717,21 +749,6 @@ pub fn erase_inside(m: &mut [u32], l: Layout, k: usize, p: usize)
     end_thing(m, l, k, p);
 }
 
-// All uses in the thing of the kind `k` at `p` end.
-fn drop_inside(m: &mut [u32], l: Layout, k: usize, p: usize, w: Walked) -> Walked
-    requires { ⌜ k ≤ 2 ⌝ }
-    requires { ⌜ CanDrop l (kindOf k, p) w (now m) ⌝ }
-    ensures { λ r. ⌜ Dropped l (kindOf k, p) w (now (m .entry)) (now (m .exit)) r ⌝ }
-{
-    if k == 0 {
-        return drop_operation(m, l, p, w);
-    }
-    if k == 1 {
-        return drop_block(m, l, p, w);
-    }
-    drop_region(m, l, p, w)
-}
-
 // The thing of the kind `k` at `p` is erased, unless what lies in it is used from outside: 13 by fewer than `n` steps, else 14.
 // All tests come before the first store.
 fn erase_found(m: &mut [u32], l: Layout, s: &mut [u32], k: usize, p: usize, n: usize) -> Answer
@@ -743,20 +760,9 @@ fn erase_found(m: &mut [u32], l: Layout, s: &mut [u32], k: usize, p: usize, n: u
     if c != 0 {
         return Answer::Refused(c);
     }
-    let a = context::live_count(m, l, 0);
-    let t = drop_inside(
-        m,
-        l,
-        k,
-        p,
-        Walked {
-            left: a,
-            freed: 0,
-            ended: 0,
-        },
-    );
+    let t = drop_tallied(m, l, k, p);
     erase_inside(m, l, k, p);
-    Answer::Accepted(t.freed as u32, t.ended as u32)
+    Answer::Accepted(t.freed, t.ended)
 }
 
 // Edit 39: the operation with this number is erased. Refused: 7, 13, 14. The scratch is lent with zeros, and has zeros again.

@@ -3,10 +3,6 @@ use Rattle.context.specs.Layout.{kindOf}
 use borrow.Author.Needs.{needs}
 use Rattle.context.proofs.bear.Statement.{statement}
 use Rattle.context.proofs.bear.Tie as tie
-use Rattle.context.proofs.bear.Reads as reads
-use Rattle.context.proofs.bear.Lts as lts
-use Rattle.context.proofs.table_span.Reads as table-span-reads
-use Rattle.arena.proofs.birth.Reads as birth-reads
 
 table-span-requires : tie.Need-table-span-requires
 table-span-requires c κs = search needs

@@ -7,13 +7,6 @@ use Rattle.seqs.proofs.Says.{says-no, says-yes}
 use native.Mathlib.Omega.{arith}
 use Rattle.context.proofs.check_parts.Statement.{statement}
 use Rattle.context.proofs.check_parts.Tie as tie
-use Rattle.context.proofs.check_parts.Reads as reads
-use Rattle.context.proofs.check_parts.Lts as lts
-use Rattle.context.proofs.caps_ok.Reads as caps-ok-reads
-use Rattle.context.proofs.families_ok.Reads as families-ok-reads
-use Rattle.context.proofs.size.Reads as size-reads
-use Rattle.context.proofs.tables_ok.Reads as tables-ok-reads
-use Rattle.context.proofs.spare_ok.Reads as spare-ok-reads
 
 caps-ok-requires : tie.Need-caps-ok-requires
 caps-ok-requires c κs = search needs

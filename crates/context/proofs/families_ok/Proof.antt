@@ -1,4 +1,4 @@
-use Prim.Native.Nat.{ℕ, _+_, _-_, _≤_, _<_}
+use Prim.Native.Nat.{ℕ, _-_, _≤_, _<_}
 use native.Mathlib.Omega.{arith}
 use borrow.Author.Needs.{needs}
 use borrow.Author.Count.{below-more}
@@ -8,9 +8,6 @@ use Rattle.context.specs.Checked.{FamilyOk}
 use Rattle.context.proofs.Checking.{all-families}
 use Rattle.context.proofs.families_ok.Statement.{statement}
 use Rattle.context.proofs.families_ok.Tie as tie
-use Rattle.context.proofs.families_ok.Reads as reads
-use Rattle.context.proofs.families_ok.Lts as lts
-use Rattle.context.proofs.family_ok.Reads as family-ok-reads
 
 abbrev Inv-loop : tie.InvT-loop
 Inv-loop m l f₀ f = (f ≤ 6) × ((j : ℕ) → j < f → FamilyOk l m (famOf j))
@@ -18,37 +15,30 @@ Inv-loop m l f₀ f = (f ≤ 6) × ((j : ℕ) → j < f → FamilyOk l m (famOf 
 abbrev μ-loop : tie.MeasureT-loop
 μ-loop m l f₀ f = 6 - f
 
--- src/lib.rt:549:5
 loop-holds : tie.Need-loop-holds Inv-loop μ-loop
 loop-holds c = (omega arith, λ j h. absurd (omega arith))
 
--- src/lib.rt:550:13
 family-ok-requires : tie.Need-family-ok-requires Inv-loop μ-loop
 family-ok-requires c κs = search needs
 
--- src/lib.rt:552:13
 returns : tie.Need-returns Inv-loop μ-loop
 returns c P =
     let s = c .before .before .before .before .before in
     let i = c .before .before .before .loop in
     says-no (c .before .family-ok .result) (FamilyOk (s .args .l) (s .args .m .now) (famOf (i .f))) (c .if1 .taken) (c .before .family-ok .ensures) (P .all (famOf (i .f)))
 
--- src/lib.rt:554:9
 add-f : tie.Need-add-f Inv-loop μ-loop
 add-f c = search needs
 
--- src/lib.rt:549:5
 loop-less : tie.Need-loop-less Inv-loop μ-loop
 loop-less c = search needs
 
--- src/lib.rt:549:5
 loop-again : tie.Need-loop-again Inv-loop μ-loop
 loop-again c =
     let s = c .before .before .before .before .before in
     let i = c .before .before .before .loop in
     (omega arith, below-more _ _ (i .inv .1) (says-yes (c .before .family-ok .result) (FamilyOk (s .args .l) (s .args .m .now) (famOf (i .f))) (c .if1 .left) (c .before .family-ok .ensures)))
 
--- src/lib.rt:543:1
 returns-2 : tie.Need-returns-2 Inv-loop μ-loop
 returns-2 c = all-families (c .before .before .before .args .l) (c .before .before .before .args .m .now) (λ j h. c .before .loop .inv .1 j (omega arith))
 

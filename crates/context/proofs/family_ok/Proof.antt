@@ -3,10 +3,6 @@ use Rattle.context.specs.Layout.{famOf}
 use borrow.Author.Needs.{needs}
 use Rattle.context.proofs.family_ok.Statement.{statement}
 use Rattle.context.proofs.family_ok.Tie as tie
-use Rattle.context.proofs.family_ok.Reads as reads
-use Rattle.context.proofs.family_ok.Lts as lts
-use Rattle.context.proofs.family_span.Reads as family-span-reads
-use Rattle.linked_list.proofs.check_links.Reads as check-links-reads
 
 family-span-requires : tie.Need-family-span-requires
 family-span-requires c κs = search needs

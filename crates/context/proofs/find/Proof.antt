@@ -3,10 +3,6 @@ use Rattle.context.specs.Layout.{kindOf}
 use borrow.Author.Needs.{needs}
 use Rattle.context.proofs.find.Statement.{statement}
 use Rattle.context.proofs.find.Tie as tie
-use Rattle.context.proofs.find.Reads as reads
-use Rattle.context.proofs.find.Lts as lts
-use Rattle.context.proofs.table_span.Reads as table-span-reads
-use Rattle.arena.proofs.find.Reads as find-reads
 
 table-span-requires : tie.Need-table-span-requires
 table-span-requires c κs = search needs

@@ -3,10 +3,6 @@ use Rattle.context.specs.Layout.{kindOf}
 use borrow.Author.Needs.{needs}
 use Rattle.context.proofs.finish.Statement.{statement}
 use Rattle.context.proofs.finish.Tie as tie
-use Rattle.context.proofs.finish.Reads as reads
-use Rattle.context.proofs.finish.Lts as lts
-use Rattle.context.proofs.table_span.Reads as table-span-reads
-use Rattle.arena.proofs.end.Reads as end-reads
 
 table-span-requires : tie.Need-table-span-requires
 table-span-requires c κs = search needs

@@ -4,10 +4,6 @@ use native.Mathlib.Omega.{arith}
 use borrow.Author.Needs.{needs}
 use Rattle.context.proofs.next_number.Statement.{statement}
 use Rattle.context.proofs.next_number.Tie as tie
-use Rattle.context.proofs.next_number.Reads as reads
-use Rattle.context.proofs.next_number.Lts as lts
-use Rattle.arena.proofs.upcoming.Reads as upcoming-reads
-use Rattle.context.proofs.table_span.Reads as table-span-reads
 
 table-span-requires : tie.Need-table-span-requires
 table-span-requires c κs = search needs

@@ -4,10 +4,6 @@ use native.Mathlib.Omega.{arith}
 use borrow.Author.Needs.{needs}
 use Rattle.context.proofs.number_of.Statement.{statement}
 use Rattle.context.proofs.number_of.Tie as tie
-use Rattle.context.proofs.number_of.Reads as reads
-use Rattle.context.proofs.number_of.Lts as lts
-use Rattle.arena.proofs.number_at.Reads as number-at-reads
-use Rattle.context.proofs.table_span.Reads as table-span-reads
 
 table-span-requires : tie.Need-table-span-requires
 table-span-requires c κs = search needs

@@ -1,4 +1,4 @@
-use mathlib.Core.Path.{_≡_, subst}
+use mathlib.Core.Path.{subst}
 use mathlib.Core.Bool.{Bool}
 use native.Mathlib.Omega.{arith}
 use mathlib.Core.Logic.{by-cases}
@@ -11,9 +11,6 @@ use Rattle.arena.specs.Packed.{Alive, front}
 use borrow.Author.Needs.{needs}
 use Rattle.context.proofs.place_spare.Statement.{statement}
 use Rattle.context.proofs.place_spare.Tie as tie
-use Rattle.context.proofs.place_spare.Reads as reads
-use Rattle.context.proofs.place_spare.Lts as lts
-use Rattle.arena.proofs.is_live.Reads as is-live-reads
 
 is-live-requires : tie.Need-is-live-requires
 is-live-requires c κs = search needs

@@ -1,14 +1,11 @@
 use borrow.Author.Needs.{needs}
-use Prim.Native.Nat.{ℕ, _+_, _-_, _≤_, _<_}
+use Prim.Native.Nat.{ℕ, _-_, _≤_, _<_}
 use native.Mathlib.Omega.{arith}
 use borrow.Author.Count.{below-more}
 use Rattle.seqs.proofs.Says.{says-no, says-yes}
 use Rattle.context.specs.Checked.{SpareAt}
 use Rattle.context.proofs.places_spare.Statement.{statement}
 use Rattle.context.proofs.places_spare.Tie as tie
-use Rattle.context.proofs.places_spare.Reads as reads
-use Rattle.context.proofs.places_spare.Lts as lts
-use Rattle.context.proofs.place_spare.Reads as place-spare-reads
 
 abbrev Inv-loop : tie.InvT-loop
 Inv-loop t s n p₀ p = (p ≤ n) × ((q : ℕ) → q < p → SpareAt n t s q)

@@ -4,11 +4,6 @@ use native.Mathlib.Omega.{arith}
 use borrow.Author.Needs.{needs}
 use Rattle.context.proofs.room_for.Statement.{statement}
 use Rattle.context.proofs.room_for.Tie as tie
-use Rattle.context.proofs.room_for.Reads as reads
-use Rattle.context.proofs.room_for.Lts as lts
-use Rattle.context.proofs.table_span.Reads as table-span-reads
-use Rattle.arena.proofs.taken.Reads as taken-reads
-use Rattle.arena.proofs.upcoming.Reads as upcoming-reads
 
 table-span-requires : tie.Need-table-span-requires
 table-span-requires c κs = search needs

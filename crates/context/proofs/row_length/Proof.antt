@@ -3,10 +3,6 @@ use Rattle.context.specs.Layout.{famOf}
 use borrow.Author.Needs.{needs}
 use Rattle.context.proofs.row_length.Statement.{statement}
 use Rattle.context.proofs.row_length.Tie as tie
-use Rattle.context.proofs.row_length.Reads as reads
-use Rattle.context.proofs.row_length.Lts as lts
-use Rattle.context.proofs.family_span.Reads as family-span-reads
-use Rattle.linked_list.proofs.count.Reads as count-reads
 
 family-span-requires : tie.Need-family-span-requires
 family-span-requires c κs = search needs

@@ -1,14 +1,9 @@
-use Rattle.context.proofs.Starting.{headed, started-all}
-use lib.ListN.{length, set, length-set}
+use Rattle.context.proofs.Starting.{started-all}
+use lib.ListN.{length-set}
 use native.Mathlib.Omega.{arith}
-use mathlib.Core.Path.{_≡_, refl, sym, ap, _∙_}
 use borrow.Author.Needs.{needs}
 use Rattle.context.proofs.set_up.Statement.{statement}
 use Rattle.context.proofs.set_up.Tie as tie
-use Rattle.context.proofs.set_up.Reads as reads
-use Rattle.context.proofs.set_up.Lts as lts
-use Rattle.context.proofs.clear.Reads as clear-reads
-use Rattle.context.proofs.size.Reads as size-reads
 
 size-requires : tie.Need-size-requires
 size-requires c κs = search needs

@@ -1,13 +1,7 @@
-use Rattle.context.specs.Layout.{kindOf}
 use Rattle.context.proofs.Sparing.{spare-asked, spare-says}
 use borrow.Author.Needs.{needs}
 use Rattle.context.proofs.spare_ok.Statement.{statement}
 use Rattle.context.proofs.spare_ok.Tie as tie
-use Rattle.context.proofs.spare_ok.Reads as reads
-use Rattle.context.proofs.spare_ok.Lts as lts
-use Rattle.context.proofs.places_spare.Reads as places-spare-reads
-use Rattle.context.proofs.table_span.Reads as table-span-reads
-use Rattle.context.proofs.tags_at.Reads as tags-at-reads
 
 table-span-requires : tie.Need-table-span-requires
 table-span-requires c κs = search needs

@@ -5,11 +5,6 @@ use Rattle.context.proofs.Begun.{start-refused, start-done}
 use borrow.Author.Needs.{needs}
 use Rattle.context.proofs.start.Statement.{statement}
 use Rattle.context.proofs.start.Tie as tie
-use Rattle.context.proofs.start.Reads as reads
-use Rattle.context.proofs.start.Lts as lts
-use Rattle.context.proofs.caps_ok.Reads as caps-ok-reads
-use Rattle.context.proofs.set_up.Reads as set-up-reads
-use Rattle.context.proofs.size.Reads as size-reads
 
 caps-ok-requires : tie.Need-caps-ok-requires
 caps-ok-requires c κs = search needs

@@ -1,12 +1,7 @@
-use Rattle.context.specs.Layout.{kindOf, TagsAt}
 use Rattle.context.proofs.Sparing.{values-code}
 use borrow.Author.Needs.{needs}
 use Rattle.context.proofs.tags_at.Statement.{statement}
 use Rattle.context.proofs.tags_at.Tie as tie
-use Rattle.context.proofs.tags_at.Reads as reads
-use Rattle.context.proofs.tags_at.Lts as lts
-use Rattle.context.proofs.flags_at.Reads as flags-at-reads
-use Rattle.context.proofs.types_at.Reads as types-at-reads
 
 flags-at-requires : tie.Need-flags-at-requires
 flags-at-requires c κs = search needs

@@ -1,14 +1,9 @@
-use native.Mathlib.Omega.{arith}
 use Rattle.seqs.proofs.Says.{says-no, says-yes}
 use Rattle.context.specs.Layout.{Caps}
 use mathlib.Core.Path.{refl}
 use borrow.Author.Needs.{needs}
 use Rattle.context.proofs.words_needed.Statement.{statement}
 use Rattle.context.proofs.words_needed.Tie as tie
-use Rattle.context.proofs.words_needed.Reads as reads
-use Rattle.context.proofs.words_needed.Lts as lts
-use Rattle.context.proofs.caps_ok.Reads as caps-ok-reads
-use Rattle.context.proofs.size.Reads as size-reads
 
 caps-ok-requires : tie.Need-caps-ok-requires
 caps-ok-requires c κs = search needs

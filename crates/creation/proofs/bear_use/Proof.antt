@@ -9,7 +9,7 @@ use Rattle.creation.proofs.bear_use.Statement.{statement}
 use Rattle.creation.proofs.bear_use.Tie as tie
 use Rattle.creation.proofs.bear_use.Reads as reads
 use Rattle.creation.proofs.bear_use.Lts as lts
-use Rattle.context.proofs.birth_use.Reads as birth-use-reads
+use Rattle.context.proofs.value.birth_use.Reads as birth-use-reads
 use Rattle.creation.proofs.definition.Reads as definition-reads
 
 definition-requires : tie.Need-definition-requires

@@ -11,8 +11,8 @@ use Rattle.creation.proofs.new_block.Statement.{statement}
 use Rattle.creation.proofs.new_block.Tie as tie
 use Rattle.creation.proofs.new_block.Reads as reads
 use Rattle.creation.proofs.new_block.Lts as lts
-use Rattle.context.proofs.birth_block.Reads as birth-block-reads
-use Rattle.context.proofs.birth_value.Reads as birth-value-reads
+use Rattle.context.proofs.basic_block.birth_block.Reads as birth-block-reads
+use Rattle.context.proofs.value.birth_value.Reads as birth-value-reads
 use Rattle.context.proofs.next_number.Reads as next-number-reads
 use Rattle.creation.proofs.room_code.Reads as room-code-reads
 use Rattle.edit.proofs.field.Reads as field-reads

@@ -11,7 +11,7 @@ use Rattle.creation.proofs.new_operation.Statement.{statement}
 use Rattle.creation.proofs.new_operation.Tie as tie
 use Rattle.creation.proofs.new_operation.Reads as reads
 use Rattle.creation.proofs.new_operation.Lts as lts
-use Rattle.context.proofs.birth_op.Reads as birth-op-reads
+use Rattle.context.proofs.operation.birth_op.Reads as birth-op-reads
 use Rattle.context.proofs.next_number.Reads as next-number-reads
 use Rattle.creation.proofs.bear_part.Reads as bear-part-reads
 use Rattle.creation.proofs.operation_code.Reads as operation-code-reads

@@ -7,7 +7,7 @@ use Rattle.links.proofs.hand_over.Statement.{statement}
 use Rattle.links.proofs.hand_over.Tie as tie
 use Rattle.links.proofs.hand_over.Reads as reads
 use Rattle.links.proofs.hand_over.Lts as lts
-use Rattle.context.proofs.enter_back.Reads as enter-back-reads
+use Rattle.context.proofs.lists.enter_back.Reads as enter-back-reads
 use Rattle.context.proofs.home_of.Reads as home-of-reads
 use Rattle.links.proofs.take_out.Reads as take-out-reads
 

@@ -4,7 +4,7 @@ use Rattle.links.proofs.link_after.Statement.{statement}
 use Rattle.links.proofs.link_after.Tie as tie
 use Rattle.links.proofs.link_after.Reads as reads
 use Rattle.links.proofs.link_after.Lts as lts
-use Rattle.context.proofs.enter_after.Reads as enter-after-reads
+use Rattle.context.proofs.lists.enter_after.Reads as enter-after-reads
 use Rattle.links.proofs.test_beside.Reads as test-beside-reads
 
 test-beside-requires : tie.Need-test-beside-requires

@@ -4,7 +4,7 @@ use Rattle.links.proofs.link_back.Statement.{statement}
 use Rattle.links.proofs.link_back.Tie as tie
 use Rattle.links.proofs.link_back.Reads as reads
 use Rattle.links.proofs.link_back.Lts as lts
-use Rattle.context.proofs.enter_back.Reads as enter-back-reads
+use Rattle.context.proofs.lists.enter_back.Reads as enter-back-reads
 use Rattle.links.proofs.test_enter.Reads as test-enter-reads
 
 test-enter-requires : tie.Need-test-enter-requires

@@ -4,7 +4,7 @@ use Rattle.links.proofs.link_before.Statement.{statement}
 use Rattle.links.proofs.link_before.Tie as tie
 use Rattle.links.proofs.link_before.Reads as reads
 use Rattle.links.proofs.link_before.Lts as lts
-use Rattle.context.proofs.enter_before.Reads as enter-before-reads
+use Rattle.context.proofs.lists.enter_before.Reads as enter-before-reads
 use Rattle.links.proofs.test_beside.Reads as test-beside-reads
 
 test-beside-requires : tie.Need-test-beside-requires

@@ -4,7 +4,7 @@ use Rattle.links.proofs.link_front.Statement.{statement}
 use Rattle.links.proofs.link_front.Tie as tie
 use Rattle.links.proofs.link_front.Reads as reads
 use Rattle.links.proofs.link_front.Lts as lts
-use Rattle.context.proofs.enter_front.Reads as enter-front-reads
+use Rattle.context.proofs.lists.enter_front.Reads as enter-front-reads
 use Rattle.links.proofs.test_enter.Reads as test-enter-reads
 
 test-enter-requires : tie.Need-test-enter-requires

@@ -9,10 +9,10 @@ use Rattle.links.proofs.take_out.Statement.{statement}
 use Rattle.links.proofs.take_out.Tie as tie
 use Rattle.links.proofs.take_out.Reads as reads
 use Rattle.links.proofs.take_out.Lts as lts
-use Rattle.context.proofs.enter_before.Reads as enter-before-reads
+use Rattle.context.proofs.lists.enter_before.Reads as enter-before-reads
 use Rattle.context.proofs.home_of.Reads as home-of-reads
 use Rattle.context.proofs.last_of.Reads as last-of-reads
-use Rattle.context.proofs.leave.Reads as leave-reads
+use Rattle.context.proofs.lists.leave.Reads as leave-reads
 
 home-of-requires : tie.Need-home-of-requires
 home-of-requires c κs = let s = c .before .before in (s .pre .0 .well, place< (s .pre .0) (reg, s .args .n) (s .pre .1))

@@ -15,7 +15,7 @@ use Rattle.links.proofs.unlink_from.Reads as reads
 use Rattle.links.proofs.unlink_from.Lts as lts
 use Rattle.context.proofs.find.Reads as find-reads
 use Rattle.context.proofs.home_of.Reads as home-of-reads
-use Rattle.context.proofs.leave.Reads as leave-reads
+use Rattle.context.proofs.lists.leave.Reads as leave-reads
 use Rattle.links.proofs.missing.Reads as missing-reads
 
 find-requires : tie.Need-find-requires

@@ -1,5 +1,6 @@
 use Rattle.table.proofs.Laws.{says-no, says-yes}
-use Rattle.readers.proofs.Public.{headed, long-enough, told, refused-6}
+use Rattle.context.proofs.Checking.{headed}
+use Rattle.readers.proofs.Public.{long-enough, told, refused-6}
 use mathlib.Core.Path.{sym, subst}
 use Rattle.context.specs.declared.Layout.{Layout}
 use Rattle.context.specs.Memory.{layoutOf, SoundStore}

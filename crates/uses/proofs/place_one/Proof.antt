@@ -9,7 +9,7 @@ use Rattle.uses.proofs.place_one.Reads as reads
 use Rattle.uses.proofs.place_one.Lts as lts
 use Rattle.context.proofs.find.Reads as find-reads
 use Rattle.context.proofs.home_of.Reads as home-of-reads
-use Rattle.context.proofs.move_use.Reads as move-use-reads
+use Rattle.context.proofs.value.move_use.Reads as move-use-reads
 
 find-requires : tie.Need-find-requires
 find-requires c κs = search needs

@@ -7,7 +7,7 @@ use Rattle.rules.specs.Refusal.{definition-named}
 use Rattle.uses.proofs.Moving.{lost-this, lost-other}
 use Rattle.edit.specs.Record.{operand, replace-some}
 use Rattle.uses.proofs.Looking.{def-at, def-none, names-some}
-use Rattle.uses.proofs.Performing.{as-asked}
+use Rattle.context.proofs.Performing.{as-asked}
 use Rattle.uses.proofs.Placing.{some-edit, replaced-some}
 use Rattle.uses.proofs.replace_some.Statement.{statement}
 use Rattle.uses.proofs.replace_some.Tie as tie

@@ -12,8 +12,8 @@ use Rattle.uses.proofs.replace_use.Statement.{statement}
 use Rattle.uses.proofs.replace_use.Tie as tie
 use Rattle.uses.proofs.replace_use.Reads as reads
 use Rattle.uses.proofs.replace_use.Lts as lts
-use Rattle.context.proofs.birth_use.Reads as birth-use-reads
-use Rattle.context.proofs.end_use.Reads as end-use-reads
+use Rattle.context.proofs.value.birth_use.Reads as birth-use-reads
+use Rattle.context.proofs.value.end_use.Reads as end-use-reads
 use Rattle.context.proofs.next_number.Reads as next-number-reads
 use Rattle.context.proofs.nth_of.Reads as nth-of-reads
 use Rattle.context.proofs.row_length.Reads as row-length-reads

@@ -3,7 +3,7 @@ use borrow.Author.Needs.{needs}
 use lib.ListN.{length, drop}
 use Rattle.edit.specs.Taken.{fields-of}
 use Rattle.places.specs.Store.{useSets}
-use Rattle.uses.proofs.Cursor.{ahead, here}
+use Rattle.context.proofs.Cursor.{ahead, here}
 use Rattle.uses.proofs.Retargeting.{Going, begins, can-move, goes-on, all-passed}
 use Rattle.uses.proofs.retarget_listed.Statement.{statement}
 use Rattle.uses.proofs.retarget_listed.Tie as tie

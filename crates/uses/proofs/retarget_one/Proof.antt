@@ -6,7 +6,7 @@ use Rattle.uses.proofs.retarget_one.Statement.{statement}
 use Rattle.uses.proofs.retarget_one.Tie as tie
 use Rattle.uses.proofs.retarget_one.Reads as reads
 use Rattle.uses.proofs.retarget_one.Lts as lts
-use Rattle.context.proofs.move_use.Reads as move-use-reads
+use Rattle.context.proofs.value.move_use.Reads as move-use-reads
 use Rattle.uses.proofs.is_chosen.Reads as is-chosen-reads
 
 is-chosen-requires : tie.Need-is-chosen-requires

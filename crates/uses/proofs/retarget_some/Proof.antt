@@ -7,7 +7,7 @@ use Rattle.rules.specs.Refusal.{definition-named}
 use Rattle.uses.proofs.Moving.{lost-this, lost-other}
 use Rattle.edit.specs.Record.{successor, retarget-some}
 use Rattle.uses.proofs.Looking.{def-at, def-none, names-retarget}
-use Rattle.uses.proofs.Performing.{as-asked}
+use Rattle.context.proofs.Performing.{as-asked}
 use Rattle.uses.proofs.RetargetEdit.{retarget-edit, is-stray, same-block, retargeted}
 use Rattle.uses.proofs.retarget_some.Statement.{statement}
 use Rattle.uses.proofs.retarget_some.Tie as tie

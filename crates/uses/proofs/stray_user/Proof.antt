@@ -1,7 +1,7 @@
 use Prim.Native.Nat.{_-_}
 use borrow.Author.Needs.{needs}
 use Rattle.places.specs.Store.{useSets}
-use Rattle.uses.proofs.Cursor.{ahead, here}
+use Rattle.context.proofs.Cursor.{ahead, here}
 use Rattle.uses.proofs.Choosing.{is-stray, not-stray, Searching, searching, hit, miss, shorter, over}
 use Rattle.uses.proofs.stray_user.Statement.{statement}
 use Rattle.uses.proofs.stray_user.Tie as tie

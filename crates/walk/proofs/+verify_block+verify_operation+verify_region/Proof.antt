@@ -10,7 +10,7 @@ use Rattle.places.specs.Verdict.{blockVerdict, regionVerdict}
 use Rattle.places.proofs.Runs.{measure}
 use Rattle.walk.specs.Judge.{onOp}
 use Rattle.rules.specs.Verdict.{is-clean}
-use Rattle.walk.proofs.Cursor.{ahead, here, less}
+use Rattle.context.proofs.Cursor.{ahead, here, next-less}
 use Rattle.walk.proofs.DropWalk.{in-op, in-region, in-block, row<}
 use Rattle.walk.proofs.Search.{nay, yea, Meeting, meeting, on}
 use Rattle.walk.proofs.VerifyLaws.{kid-falls, op-hit, op-end, region-hit, region-end, block-self, block-hit, block-end}
@@ -271,7 +271,7 @@ verify-block-loop-less : (t : ℕ) → verify-block-lts.Need-loop-less (
   next-of-reads.Learnt,
 ) (verify-block-at t) verify-block.Post verify-block-Inv-loop verify-block-μ-loop
 verify-block-loop-less t c =
-    less (c .before .before .before .before .before .before .before .before .before .before .before .pre .1 .0) (c .before .before .before .before .before .loop .inv .at) (c .before .before .before .before .loop-test .taken) (c .next-of .result) (c .next-of .ensures)
+    next-less (c .before .before .before .before .before .before .before .before .before .before .before .pre .1 .0) (c .before .before .before .before .before .loop .inv .at) (c .before .before .before .before .loop-test .taken) (c .next-of .result) (c .next-of .ensures)
 
 verify-block-loop-again : (t : ℕ) → verify-block-lts.Need-loop-again (
   judge-block-reads.Asked,
@@ -449,7 +449,7 @@ verify-operation-loop-less : (t : ℕ) → verify-operation-lts.Need-loop-less (
   judge-end-reads.Learnt,
 ) (verify-operation-at t) verify-operation.Post verify-operation-Inv-loop verify-operation-μ-loop
 verify-operation-loop-less t c =
-    less (c .before .before .before .before .before .before .before .before .pre .1 .0) (c .before .before .before .before .before .loop .inv .at) (c .before .before .before .before .loop-test .taken) (c .next-of .result) (c .next-of .ensures)
+    next-less (c .before .before .before .before .before .before .before .before .pre .1 .0) (c .before .before .before .before .before .loop .inv .at) (c .before .before .before .before .loop-test .taken) (c .next-of .result) (c .next-of .ensures)
 
 verify-operation-loop-again : (t : ℕ) → verify-operation-lts.Need-loop-again (
   first-of-reads.Asked,
@@ -619,7 +619,7 @@ verify-region-loop-less : (t : ℕ) → verify-region-lts.Need-loop-less (
   next-of-reads.Learnt,
 ) (verify-region-at t) verify-region.Post verify-region-Inv-loop verify-region-μ-loop
 verify-region-loop-less t c =
-    less (c .before .before .before .before .before .before .before .before .pre .1 .0) (c .before .before .before .before .before .loop .inv .at) (c .before .before .before .before .loop-test .taken) (c .next-of .result) (c .next-of .ensures)
+    next-less (c .before .before .before .before .before .before .before .before .pre .1 .0) (c .before .before .before .before .before .loop .inv .at) (c .before .before .before .before .loop-test .taken) (c .next-of .result) (c .next-of .ensures)
 
 verify-region-loop-again : (t : ℕ) → verify-region-lts.Need-loop-again (
   first-of-reads.Asked,

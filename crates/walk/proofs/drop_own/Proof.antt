@@ -5,7 +5,7 @@ use Rattle.walk.proofs.drop_own.Statement.{statement}
 use Rattle.walk.proofs.drop_own.Tie as tie
 use Rattle.walk.proofs.drop_own.Reads as reads
 use Rattle.walk.proofs.drop_own.Lts as lts
-use Rattle.context.proofs.drop_slots.Reads as drop-slots-reads
+use Rattle.context.proofs.operation.drop_slots.Reads as drop-slots-reads
 
 mul-drop-slots : tie.Need-mul-drop-slots
 mul-drop-slots c =

@@ -2,13 +2,13 @@ use borrow.Author.Needs.{needs}
 use mathlib.Core.Path.{_≡_, refl, _∙_}
 use lib.ListN.{length}
 use Rattle.places.specs.Store.{vals}
-use Rattle.walk.proofs.Cursor.{row}
+use Rattle.context.proofs.Cursor.{row}
 use Rattle.walk.proofs.EndValues.{Ending, ending, value-unused, value-turn, values-less, values-ended}
 use Rattle.walk.proofs.end_values.Statement.{statement}
 use Rattle.walk.proofs.end_values.Tie as tie
 use Rattle.walk.proofs.end_values.Reads as reads
 use Rattle.walk.proofs.end_values.Lts as lts
-use Rattle.context.proofs.end_value.Reads as end-value-reads
+use Rattle.context.proofs.value.end_value.Reads as end-value-reads
 use Rattle.context.proofs.first_of.Reads as first-of-reads
 
 abbrev Inv-loop : tie.InvT-loop

@@ -1,16 +1,12 @@
 use borrow.Author.Needs.{needs}
-use mathlib.Core.Path.{refl}
-use native.Mathlib.Omega.{arith}
-use Rattle.context.specs.Layout.{kindOf}
-use Rattle.walk.proofs.Asked.{starts}
+use Rattle.walk.proofs.Asked.{may-tally}
 use Rattle.walk.proofs.EraseEdit.{refused-answer, can-erase, done-answer}
 use Rattle.walk.proofs.erase_found.Statement.{statement}
 use Rattle.walk.proofs.erase_found.Tie as tie
 use Rattle.walk.proofs.erase_found.Reads as reads
 use Rattle.walk.proofs.erase_found.Lts as lts
 use Rattle.walk.proofs.erase_refusal.Reads as erase-refusal-reads
-use Rattle.context.proofs.live_count.Reads as live-count-reads
-use Rattle.walk.proofs.drop_inside.Reads as drop-inside-reads
+use Rattle.walk.proofs.drop_tallied.Reads as drop-tallied-reads
 use Rattle.walk.proofs.erase_inside.Reads as erase-inside-reads
 
 erase-refusal-requires : tie.Need-erase-refusal-requires
@@ -29,25 +25,13 @@ returns : tie.Need-returns
 returns c =
     (refused-answer (c .before .before .before .erase-refusal .ensures) (c .if1 .taken), c .before .before .before .erase-refusal .ensures .scratch)
 
-live-count-requires : tie.Need-live-count-requires
-live-count-requires c κs =
-    c .before .before .before .before .before .before .before .before .before .pre .store .well
-
-drop-inside-requires : tie.Need-drop-inside-requires
-drop-inside-requires c κs =
-    let s = c .before .before .before .before .before .before .before .before .before .before .before in (s .pre .kind, starts (s .pre .store) (kindOf (s .args .k), s .args .p) (c .before .live-count .result) (c .before .live-count .ensures) (s .pre .live))
+drop-tallied-requires : tie.Need-drop-tallied-requires
+drop-tallied-requires c κs =
+    let s = c .before .before .before .before .before .before .before .before .before in may-tally (s .pre .store) (s .args .k) (s .args .p) (s .pre .kind) (s .pre .live)
 
 erase-inside-requires : tie.Need-erase-inside-requires
 erase-inside-requires c κs =
-    let s = c .before .before .before .before .before .before .before .before .before .before .before .before .before .before .before in (s .pre .kind, can-erase (s .args .k) (s .args .p) (s .pre) (c .before .before .before .before .before .before .before .before .before .before .erase-refusal .ensures) (c .before .before .before .before .before .before .before .if1 .left) (c .before .before .before .drop-inside .ensures))
-
-cast-t23 : tie.Need-cast-t23
-cast-t23 c =
-    let s = c .before .before .before .before .before .before .before .before .before .before .before .before .before .before .before .before .before .before .before in omega (arith, c .before .before .before .before .before .before .before .drop-inside .ensures .numbers .freed, c .before .before .before .before .before .before .before .drop-inside .ensures .numbers .left, c .before .before .before .before .before .before .before .drop-inside .ensures .numbers .ended, c .before .before .before .before .before .before .before .drop-inside .ensures .numbers .small, c .before .before .before .before .before .before .before .before .before .live-count .ensures .small, s .pre .store .well .caps .ops)
-
-cast-t24 : tie.Need-cast-t24
-cast-t24 c =
-    let s = c .before .before .before .before .before .before .before .before .before .before .before .before .before .before .before .before .before .before .before .before in omega (arith, c .before .before .before .before .before .before .before .before .drop-inside .ensures .numbers .freed, c .before .before .before .before .before .before .before .before .drop-inside .ensures .numbers .left, c .before .before .before .before .before .before .before .before .drop-inside .ensures .numbers .ended, c .before .before .before .before .before .before .before .before .drop-inside .ensures .numbers .small, c .before .before .before .before .before .before .before .before .before .before .live-count .ensures .small, s .pre .store .well .caps .ops)
+    let s = c .before .before .before .before .before .before .before .before .before .before .before .before .before in (s .pre .kind, can-erase (s .args .k) (s .args .p) (s .pre) (c .before .before .before .before .before .before .before .before .erase-refusal .ensures) (c .before .before .before .before .before .if1 .left) (c .before .before .before .drop-tallied .ensures))
 
 same-length-3 : tie.Need-same-length-3
 same-length-3 c =
@@ -59,7 +43,7 @@ same-length-4 c =
 
 returns-2 : tie.Need-returns-2
 returns-2 c =
-    let s = c .before .before .before .before .before .before .before .before .before .before .before .before .before .before .before .before .before .before .before .before in (done-answer (s .args .k) (s .args .p) (s .pre) (c .before .before .before .before .before .before .before .before .before .before .before .before .before .before .before .erase-refusal .ensures) (c .before .before .before .before .before .before .before .before .before .before .before .before .if1 .left) refl refl (c .before .before .before .before .before .before .before .before .drop-inside .ensures) (c .before .before .before .before .erase-inside .ensures), c .before .before .before .before .before .before .before .before .before .before .before .before .before .before .before .erase-refusal .ensures .scratch)
+    let s = c .before .before .before .before .before .before .before .before .before .before .before .before .before .before .before .before in (done-answer (s .args .k) (s .args .p) (s .pre) (c .before .before .before .before .before .before .before .before .before .before .before .erase-refusal .ensures) (c .before .before .before .before .before .before .before .before .if1 .left) (c .before .before .before .before .before .before .drop-tallied .ensures) (c .before .before .erase-inside .ensures), c .before .before .before .before .before .before .before .before .before .before .before .erase-refusal .ensures .scratch)
 
 pub erase-found-spec : {M : Type 1} → statement M
 erase-found-spec =
@@ -69,11 +53,8 @@ erase-found-spec =
     same-length
     same-length-2
     returns
-    live-count-requires
-    drop-inside-requires
+    drop-tallied-requires
     erase-inside-requires
-    cast-t23
-    cast-t24
     same-length-3
     same-length-4
     returns-2)

@@ -11,7 +11,7 @@ use Rattle.walk.proofs.is_terminator.Statement.{statement}
 use Rattle.walk.proofs.is_terminator.Tie as tie
 use Rattle.walk.proofs.is_terminator.Reads as reads
 use Rattle.walk.proofs.is_terminator.Lts as lts
-use Rattle.context.proofs.flags_of.Reads as flags-of-reads
+use Rattle.context.proofs.operation.flags_of.Reads as flags-of-reads
 
 flags-of-requires : tie.Need-flags-of-requires
 flags-of-requires c κs =

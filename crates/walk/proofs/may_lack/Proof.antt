@@ -11,7 +11,7 @@ use Rattle.walk.proofs.may_lack.Statement.{statement}
 use Rattle.walk.proofs.may_lack.Tie as tie
 use Rattle.walk.proofs.may_lack.Reads as reads
 use Rattle.walk.proofs.may_lack.Lts as lts
-use Rattle.context.proofs.flags_of.Reads as flags-of-reads
+use Rattle.context.proofs.operation.flags_of.Reads as flags-of-reads
 
 flags-of-requires : tie.Need-flags-of-requires
 flags-of-requires c κs =

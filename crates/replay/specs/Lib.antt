@@ -1,0 +1,2 @@
+-- The replay of recorded scripts. Assumes nothing.
+pub mod Same

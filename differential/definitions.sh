@@ -10,6 +10,11 @@ trap 'rm -rf "$work"' EXIT
 mkdir -p "$work/crates"
 cp -R ../crates/edit ../crates/rules "$work/crates/"
 printf 'edit:\nrules: edit\ndefinitions: rules edit\n' >"$work/crates.txt"
+# what is proved already and unchanged is not proved again
+mkdir -p "$work/target/rlib" "$work/target/stamp"
+for c in edit rules; do
+    if [ -f "../target/stamp/$c" ]; then cp -R "../target/rlib/$c.rlib" "$work/target/rlib/" && cp "../target/stamp/$c" "$work/target/stamp/"; fi
+done
 cargo run -q --release --offline -j1 -- definitions "$work/crates/definitions" "$n" "$seed" "$longest"
 rows=$(cat "$work"/crates/definitions/specs/Rows*.antt | grep -c '^pub row-')
 

@@ -245,7 +245,7 @@ impl Grower {
         let op = self.store.ops.get(o);
         let (block, has_uses, nests) = (op.block, !op.operands.is_empty() || !op.successors.is_empty(), !op.regions.is_empty());
         let region = op.regions.first().copied();
-        match (self.rng.below(20), region, block) {
+        match (self.rng.below(60), region, block) {
             (0, Some(r), _) if self.is_small(o) => self.edit(38, &[r]),
             (1, Some(_), _) if self.is_small(o) => self.edit(41, &[o, 0]),
             (2, _, Some(b)) if self.store.blocks.get(b).ops.len() < 4 => self.edit(37, &[b]),

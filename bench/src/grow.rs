@@ -146,12 +146,14 @@ impl Grower {
 
     fn edit_uses(&mut self) {
         let (o, kind) = (self.op(), 3 + self.rng.below(10) as u16);
-        let (op, operands) = (self.store.ops.get(o), kind <= 7);
-        let (length, results) = (if operands { op.operands.len() } else { op.successors.len() }, op.results.clone());
+        let operands = kind <= 7;
+        let op = self.store.ops.get(o);
+        let (slots, results) = (if operands { op.operands.clone() } else { op.successors.clone() }, op.results.clone());
         let d = if operands { self.often_used() } else { self.block() };
-        let i = self.rng.below(length + 1) as u32;
-        // the published Rust stops at an operation that takes out its own result (docs/DIFFERENCES.md)
-        if operands && results.contains(&d) {
+        let i = self.rng.below(slots.len() + 1) as u32;
+        // the published Rust stops where an operation's own result is replaced (docs/DIFFERENCES.md)
+        let out = slots.get(i as usize).map_or(d, |s| s.def);
+        if operands && (results.contains(&d) || results.contains(&out)) {
             return;
         }
         match kind {
@@ -243,21 +245,25 @@ impl Grower {
     fn take_apart(&mut self) {
         let o = self.op();
         let op = self.store.ops.get(o);
-        let (block, has_uses, nests) = (op.block, !op.operands.is_empty() || !op.successors.is_empty(), !op.regions.is_empty());
+        let (block, has_uses) = (op.block, !op.operands.is_empty() || !op.successors.is_empty());
         let region = op.regions.first().copied();
-        match (self.rng.below(20), region, block) {
+        match (self.rng.below(16), region, block) {
             (0, Some(r), _) if self.is_small(o) => self.edit(38, &[r]),
             (1, Some(_), _) if self.is_small(o) => self.edit(41, &[o, 0]),
-            (2, _, Some(b)) if self.store.blocks.get(b).ops.len() < 4 => self.edit(37, &[b]),
-            (3, _, Some(b)) if self.store.blocks.get(b).ops.len() < 4 => self.edit(40, &[b]),
+            (2, _, Some(b)) if self.is_flat(b) => self.edit(37, &[b]),
+            (3, _, Some(b)) if self.is_flat(b) => self.edit(40, &[b]),
+            _ if !self.is_small(o) => None,
             _ if has_uses => self.edit(36, &[o]),
-            _ if !nests || self.is_small(o) => self.edit(39, &[o]),
-            _ => None,
+            _ => self.edit(39, &[o]),
         };
     }
+    /// Whether no operation of the block has a region.
+    fn is_flat(&self, b: u32) -> bool {
+        self.store.blocks.get(b).ops.iter().all(|&o| self.store.ops.get(o).regions.is_empty())
+    }
     fn is_small(&self, o: u32) -> bool {
-        let blocks = self.store.ops.get(o).regions.iter().flat_map(|&r| &self.store.regions.get(r).blocks);
-        blocks.flat_map(|&b| &self.store.blocks.get(b).ops).all(|&o| self.store.ops.get(o).regions.is_empty())
+        let mut blocks = self.store.ops.get(o).regions.iter().flat_map(|&r| &self.store.regions.get(r).blocks);
+        blocks.all(|&b| self.is_flat(b))
     }
 
     fn judge(&mut self) {

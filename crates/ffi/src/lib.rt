@@ -23,13 +23,7 @@ fn layout(ops: u32, blocks: u32, regions: u32, values: u32, uses: u32) -> Layout
 
 // How many words a store with these capacities needs; 0 where a capacity is 0 or over its limit.
 #[no_mangle]
-pub extern "C" fn recipe_words(
-    ops: u32,
-    blocks: u32,
-    regions: u32,
-    values: u32,
-    uses: u32,
-) -> usize
+pub extern "C" fn recipe_words(ops: u32, blocks: u32, regions: u32, values: u32, uses: u32) -> usize
     ensures { λ r. ⌜ WordsNeeded (layoutBy ops blocks regions values uses) r ⌝ }
 {
     let l = layout(ops, blocks, regions, values, uses);

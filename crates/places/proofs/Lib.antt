@@ -57,3 +57,4 @@ pub mod RuleValues
 pub mod RuleValueCodes
 pub mod RuleBirths
 pub mod RuleGrown
+pub mod DefUse

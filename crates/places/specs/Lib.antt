@@ -10,3 +10,4 @@ pub mod Verdict
 pub mod Roles
 pub mod Members
 pub mod Accepts
+pub mod DefUse

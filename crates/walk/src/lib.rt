@@ -380,7 +380,8 @@ fn judge_end(m: &[u32], l: Layout, o: usize) -> Answer
     Answer::Accepted(3, n)
 }
 
-// The verdict on the operation at the place `o`: its regions in order, then its end.
+// The verdict on the operation at the place `o`: its regions in order, then its end. The published tests of uses and definitions
+// always pass on a sound store (places, proofs/DefUse) and are left out.
 pub fn verify_operation(m: &[u32], l: Layout, o: usize) -> Answer
     requires { ⌜ SoundStore l (now m) × Live (stateOf l (now m)) (op, o) ⌝ }
     ensures { λ r. ⌜ OpJudged l o (now (m .entry)) r ⌝ }

@@ -40,7 +40,7 @@ fn recorded_scripts() {
 #[test]
 fn random_scripts_as_the_store() {
     for seed in 0..600 {
-        let (script, _, capacities) = scripts::script(seed);
+        let (script, _, capacities) = scripts::script(seed, scripts::LONGEST);
         let mut store = vec![0; words(capacities) as usize];
         interface::start(&mut store, capacities);
         let (mut scratch, mut answers) = (vec![0; capacities[0] as usize], vec![0; 3 * script.len().max(1)]);

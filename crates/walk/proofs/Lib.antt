@@ -9,8 +9,9 @@ pub mod Search
 pub mod VerifyLaws
 pub mod VerdictEdit
 pub mod EraseLaws
-pub mod Climbing
-pub mod Strays
-pub mod EndValues
+pub mod KindCodes
 pub mod EraseWalk
+pub mod Strays
+pub mod Marks
+pub mod EndValues
 pub mod EraseEdit

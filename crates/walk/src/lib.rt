@@ -5,24 +5,21 @@ use context::Layout;
 use edit::Answer;
 ghost use mathlib.Core.Path.{_≡_};
 ghost use mathlib.Core.Bool.{_||_};
-ghost use Rattle.places.specs.Store.{op, blk, reg, usg, Live, up};
+ghost use Rattle.places.specs.Store.{op, blk, reg, usg, useSets, vals, Live, up};
 ghost use Rattle.places.specs.Verdict.{terminates, lackable, endsWell, namesBlock, leadsTo, strayUser, lostPred, tooEarly};
-ghost use Rattle.rules.specs.Table.{some-and};
+ghost use Rattle.rules.specs.Table.{any, some-and};
 ghost use Rattle.rules.specs.Verdict.{is-clean};
 ghost use Rattle.edit.specs.Answer.{numbers-of};
-ghost use Rattle.context.specs.Memory.{stateOf, SoundStore};
+ghost use Rattle.context.specs.Memory.{con, stateOf, SoundStore};
 ghost use Rattle.context.specs.Performed.{Performed};
 ghost use Rattle.edit.specs.Record.{the-operation, the-block, the-region, drop-uses, erase-operation, erase-block, erase-region, verdict};
 ghost use Rattle.walk.specs.Drop.{CanDrop, OwnDropped, Dropped, zeros, CanTally, Tallied};
 ghost use Rattle.walk.specs.Judge.{userPlaced, userLeads, UserIs, BlockAlone, OpJudged, BlockJudged, RegionJudged};
 ghost use Prim.Native.Nat.{_≤_, _<_};
 ghost use lib.ListN.{length};
-ghost use Rattle.seqs.specs.Seqs.{count, sum};
-ghost use Rattle.seqs.specs.Seqs.{Says};
-ghost use Rattle.places.specs.Store.{Thing-dec};
-ghost use Rattle.places.specs.Walk.{strays};
-ghost use Rattle.context.specs.Layout.{kindOf};
-ghost use Rattle.walk.specs.Tests.{within, outerCode, ParentIs, DepthIs, MarkIs, Testable, Marked, usesOf, strayUse, marksIn, eraseCode, Zeros, Tested, Scratch};
+ghost use Rattle.context.specs.Layout.{kindOf, ncOf};
+ghost use Rattle.context.specs.Reading.{listOf};
+ghost use Rattle.walk.specs.Tests.{within, alone, DepthIs, Testable, Given, stray, straySet, strayValue, strayThing, marksIn, eraseCode, Zeros, Tested, Scratch};
 ghost use Rattle.walk.specs.Erase.{CanErase, Erased, CanEndValues, EndedValues, OwnEnded, innerCode, ChildIs, EraseAnswer};
 ghost use Rattle.context.specs.Steps.{CanEnd, Ended};
 
@@ -473,65 +470,6 @@ pub fn region_verdict(m: &[u32], l: Layout, number: u32) -> Answer
     verify_region(m, l, p)
 }
 
-// Whether the places and kinds are the same.
-fn is_it(k: usize, p: usize, j: usize, q: usize) -> bool
-    ensures { λ r. ⌜ Says r ((j ≡ k) × (q ≡ p)) ⌝ }
-{
-    if j != k {
-        return false;
-    }
-    q == p
-}
-
-// What the thing of the kind `j` at the place `q` lies in.
-fn parent(m: &[u32], l: Layout, j: usize, q: usize) -> usize
-    requires { ⌜ SoundStore l (now m) × (j ≤ 2) × Live (stateOf l (now m)) (kindOf j, q) ⌝ }
-    ensures { λ r. ⌜ ParentIs l j q (now (m .entry)) r ⌝ }
-{
-    if j == 0 {
-        return context::home_of(m, l, 4, q);
-    }
-    if j == 1 {
-        return context::home_of(m, l, 5, q);
-    }
-    context::home_of(m, l, 3, q)
-}
-
-fn outer_kind(j: usize) -> usize
-    requires { ⌜ j ≤ 2 ⌝ }
-    ensures { λ r. ⌜ r ≡ outerCode j ⌝ }
-{
-    if j == 2 {
-        return 0;
-    }
-    j + 1
-}
-
-// Whether the thing of the kind `j` at `q` is the one of the kind `k` at `p` or lies in it, by fewer than `n` steps.
-fn lies_in(m: &[u32], l: Layout, k: usize, p: usize, j: usize, q: usize, n: usize) -> bool
-    requires { ⌜ SoundStore l (now m) × (k ≤ 2) ⌝ }
-    requires { ⌜ (j ≤ 2) × Live (stateOf l (now m)) (kindOf j, q) ⌝ }
-    ensures { λ r. ⌜ Says r (0 < count Thing-dec (kindOf j, q) (within (stateOf l (now (m .entry))) n (kindOf k, p))) ⌝ }
-{
-    let mut a = j;
-    let mut c = q;
-    let mut i = n;
-    while i != 0 {
-        let g = is_it(k, p, a, c);
-        if g {
-            return true;
-        }
-        let h = parent(m, l, a, c);
-        if h == 0 {
-            return false;
-        }
-        c = h - 1;
-        a = outer_kind(a);
-        i -= 1;
-    }
-    false
-}
-
 // A depth that reaches all: as many steps as things live.
 fn depth(m: &[u32], l: Layout) -> usize
     requires { ⌜ SoundStore l (now m) ⌝ }
@@ -545,82 +483,115 @@ fn depth(m: &[u32], l: Layout) -> usize
     a + b + c + d + e + 1
 }
 
-// The mark of the operation at `o`: 1 where it lies in the thing, and else 0.
-fn mark_of(m: &[u32], l: Layout, k: usize, p: usize, n: usize, o: usize) -> u32
-    requires { ⌜ SoundStore l (now m) × (k ≤ 2) ⌝ }
-    requires { ⌜ DepthIs l (now m) n ⌝ }
-    requires { ⌜ Live (stateOf l (now m)) (op, o) ⌝ }
-    ensures { λ r. ⌜ MarkIs l (kindOf k, p) o (now (m .entry)) r ⌝ }
+// The thing gets the mark `v` if it is an operation.
+fn mark_own(s: &mut [u32], k: usize, p: usize, v: u32)
+    requires { ⌜ (k ≤ 2) × (k ≡ 0 → p < length (now s)) ⌝ }
+    ensures { λ _. ⌜ Given (alone (kindOf k, p)) v (now (s .entry)) (now (s .exit)) ⌝ }
 {
-    let g = lies_in(m, l, k, p, 0, o, n);
-    if g {
-        return 1;
+    if k == 0 {
+        s[p] = v;
     }
-    0
 }
 
-// The operations in the thing get a mark, the other live ones none.
-fn mark_inside(m: &[u32], l: Layout, s: &mut [u32], k: usize, p: usize, n: usize)
+// The operations in the thing, itself included, by fewer than `n` steps get the mark `v`.
+fn mark_within(m: &[u32], l: Layout, s: &mut [u32], k: usize, p: usize, n: usize, v: u32)
     requires { ⌜ Testable l k p (now m) (now s) ⌝ }
-    requires { ⌜ DepthIs l (now m) n ⌝ }
-    ensures { λ _. ⌜ Marked l (kindOf k, p) (now (m .entry)) (now (s .exit)) ⌝ }
+    ensures { λ _. ⌜ Given (within (stateOf l (now (m .entry))) n (kindOf k, p)) v (now (s .entry)) (now (s .exit)) ⌝ }
 {
-    let t = context::live_count(m, l, 0);
-    let mut i = 0;
-    while i < t {
-        let o = context::nth_live(m, l, 0, i);
-        let v = mark_of(m, l, k, p, n, o);
-        s[o] = v;
-        i += 1;
+    if n == 0 {
+        return;
+    }
+    mark_own(s, k, p, v);
+    let j = inner_kind(k);
+    let mut c = context::first_of(m, l, 3 + k, p);
+    while c != 0 {
+        mark_within(m, l, s, j, c - 1, n - 1, v);
+        c = context::next_of(m, l, 3 + k, c - 1);
     }
 }
 
-// Whether the use's definition is one of the thing's, or of what lies in it by fewer than `n` steps.
-fn uses_inside(m: &[u32], l: Layout, k: usize, p: usize, n: usize, u: usize) -> bool
-    requires { ⌜ SoundStore l (now m) × (k ≤ 2) ⌝ }
+// Whether the use stands at an operation without a mark.
+fn is_stray(m: &[u32], l: Layout, s: &[u32], u: usize) -> bool
+    requires { ⌜ SoundStore l (now m) × (l .ops ≤ length (now s)) ⌝ }
     requires { ⌜ Live (stateOf l (now m)) (usg, u) ⌝ }
-    ensures { λ r. ⌜ Says r (0 < usesOf (stateOf l (now (m .entry))) (within (stateOf l (now (m .entry))) n (kindOf k, p)) u) ⌝ }
-{
-    let d = context::home_of(m, l, 1, u);
-    if l.values < d {
-        return lies_in(m, l, k, p, 1, d - 1 - l.values, n);
-    }
-    let o = context::home_of(m, l, 2, d - 1);
-    if l.ops < o {
-        return lies_in(m, l, k, p, 1, o - 1 - l.ops, n);
-    }
-    lies_in(m, l, k, p, 0, o - 1, n)
-}
-
-// Whether the use stands outside, and its definition inside.
-fn stray_use(m: &[u32], l: Layout, s: &[u32], k: usize, p: usize, n: usize, u: usize) -> bool
-    requires { ⌜ SoundStore l (now m) × (k ≤ 2) × (l .ops ≤ length (now s)) ⌝ }
-    requires { ⌜ Live (stateOf l (now m)) (usg, u) ⌝ }
-    ensures { λ r. ⌜ Says r (0 < strayUse (stateOf l (now (m .entry))) (marksIn (now (s .entry))) (within (stateOf l (now (m .entry))) n (kindOf k, p)) u) ⌝ }
+    ensures { λ r. ⌜ r ≡ stray (stateOf l (now (m .entry))) (marksIn (now (s .entry))) (usg, u) ⌝ }
 {
     let o = user_of(m, l, u);
-    let v = s[o];
-    if v != 0 {
-        return false;
-    }
-    uses_inside(m, l, k, p, n, u)
+    s[o] == 0
 }
 
-// Whether anything that lies in the thing by fewer than `n` steps is used from outside: one loop over the live uses.
-fn used_outside(m: &[u32], l: Layout, s: &[u32], k: usize, p: usize, n: usize) -> bool
-    requires { ⌜ SoundStore l (now m) × (k ≤ 2) × (l .ops ≤ length (now s)) ⌝ }
-    requires { ⌜ Live (stateOf l (now m)) (kindOf k, p) ⌝ }
-    ensures { λ r. ⌜ Says r (0 < sum (strays (stateOf l (now (m .entry))) (marksIn (now (s .entry)))) (within (stateOf l (now (m .entry))) n (kindOf k, p))) ⌝ }
+// Whether a use of the set `d` stands at an operation without a mark.
+fn set_strays(m: &[u32], l: Layout, s: &[u32], d: usize) -> bool
+    requires { ⌜ SoundStore l (now m) × (l .ops ≤ length (now s)) ⌝ }
+    requires { ⌜ d < ncOf l useSets ⌝ }
+    ensures { λ r. ⌜ r ≡ straySet (stateOf l (now (m .entry))) (marksIn (now (s .entry))) (con l useSets d) ⌝ }
 {
-    let t = context::live_count(m, l, 4);
-    let mut i = 0;
-    while i < t {
-        let u = context::nth_live(m, l, 4, i);
-        let g = stray_use(m, l, s, k, p, n, u);
+    let mut k = context::first_of(m, l, 1, d);
+    while k != 0 {
+        let g = is_stray(m, l, s, k - 1);
         if g {
             return true;
         }
-        i += 1;
+        k = context::next_of(m, l, 1, k - 1);
+    }
+    false
+}
+
+// Whether a use of a value of the list `c` does.
+fn values_stray(m: &[u32], l: Layout, s: &[u32], c: usize) -> bool
+    requires { ⌜ SoundStore l (now m) × (l .ops ≤ length (now s)) ⌝ }
+    requires { ⌜ c < ncOf l vals ⌝ }
+    ensures { λ r. ⌜ r ≡ any (strayValue (stateOf l (now (m .entry))) (marksIn (now (s .entry)))) (listOf l (now (m .entry)) (con l vals c)) ⌝ }
+{
+    let mut k = context::first_of(m, l, 2, c);
+    while k != 0 {
+        let g = set_strays(m, l, s, k - 1);
+        if g {
+            return true;
+        }
+        k = context::next_of(m, l, 2, k - 1);
+    }
+    false
+}
+
+// Whether a use of a definition of the thing does: of a result, of an argument, of the block itself.
+fn own_strays(m: &[u32], l: Layout, s: &[u32], k: usize, p: usize) -> bool
+    requires { ⌜ Testable l k p (now m) (now s) ⌝ }
+    ensures { λ r. ⌜ r ≡ strayThing (stateOf l (now (m .entry))) (marksIn (now (s .entry))) (kindOf k, p) ⌝ }
+{
+    if k == 0 {
+        return values_stray(m, l, s, p);
+    }
+    if k == 1 {
+        let g = set_strays(m, l, s, l.values + p);
+        if g {
+            return true;
+        }
+        return values_stray(m, l, s, l.ops + p);
+    }
+    false
+}
+
+// Whether anything in the thing, itself included, by fewer than `n` steps is used at an operation without a mark.
+fn strays_within(m: &[u32], l: Layout, s: &[u32], k: usize, p: usize, n: usize) -> bool
+    requires { ⌜ Testable l k p (now m) (now s) ⌝ }
+    ensures { λ r. ⌜ r ≡ any (strayThing (stateOf l (now (m .entry))) (marksIn (now (s .entry)))) (within (stateOf l (now (m .entry))) n (kindOf k, p)) ⌝ }
+{
+    if n == 0 {
+        return false;
+    }
+    let own = own_strays(m, l, s, k, p);
+    if own {
+        return true;
+    }
+    let j = inner_kind(k);
+    let mut c = context::first_of(m, l, 3 + k, p);
+    while c != 0 {
+        let g = strays_within(m, l, s, j, c - 1, n - 1);
+        if g {
+            return true;
+        }
+        c = context::next_of(m, l, 3 + k, c - 1);
     }
     false
 }
@@ -631,37 +602,26 @@ fn test_marked(m: &[u32], l: Layout, s: &[u32], k: usize, p: usize, n: usize, de
     requires { ⌜ DepthIs l (now m) deep ⌝ }
     ensures { λ r. ⌜ r ≡ eraseCode (stateOf l (now (m .entry))) (marksIn (now (s .entry))) n (kindOf k, p) ⌝ }
 {
-    let a = used_outside(m, l, s, k, p, n);
+    let a = strays_within(m, l, s, k, p, n);
     if a {
         return 13;
     }
-    let b = used_outside(m, l, s, k, p, deep);
+    let b = strays_within(m, l, s, k, p, deep);
     if b {
         return 14;
     }
     0
 }
 
-// The scratch becomes 0.
-fn clear_marks(s: &mut [u32])
-    ensures { λ _. ⌜ Zeros (now (s .exit)) ⌝ }
-{
-    let mut i = 0;
-    while i < s.len() {
-        s[i] = 0;
-        i += 1;
-    }
-}
-
 // What refuses that the thing of the kind `k` at `p` is erased: 13 for what lies in it by fewer than `n` steps, 14 for all in it; and else 0.
 fn erase_refusal(m: &[u32], l: Layout, s: &mut [u32], k: usize, p: usize, n: usize) -> u32
-    requires { ⌜ Testable l k p (now m) (now s) ⌝ }
+    requires { ⌜ Testable l k p (now m) (now s) × Zeros (now s) ⌝ }
     ensures { λ r. ⌜ Tested l (kindOf k, p) n (now (m .entry)) (now (s .entry)) (now (s .exit)) r ⌝ }
 {
     let deep = depth(m, l);
-    mark_inside(m, l, s, k, p, deep);
+    mark_within(m, l, s, k, p, deep, 1);
     let r = test_marked(m, l, s, k, p, n, deep);
-    clear_marks(s);
+    mark_within(m, l, s, k, p, deep, 0);
     r
 }
 
@@ -753,7 +713,7 @@ pub fn erase_inside(m: &mut [u32], l: Layout, k: usize, p: usize)
 // The thing of the kind `k` at `p` is erased, unless what lies in it is used from outside: 13 by fewer than `n` steps, else 14.
 // All tests come before the first store.
 fn erase_found(m: &mut [u32], l: Layout, s: &mut [u32], k: usize, p: usize, n: usize) -> Answer
-    requires { ⌜ Testable l k p (now m) (now s) ⌝ }
+    requires { ⌜ Testable l k p (now m) (now s) × Zeros (now s) ⌝ }
     ensures { λ r. ⌜ EraseAnswer l (kindOf k, p) n (now (m .entry)) (now (m .exit)) r ⌝ }
     ensures { λ _. ⌜ Scratch l (now (s .exit)) ⌝ }
 {

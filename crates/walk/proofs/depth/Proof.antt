@@ -1,5 +1,5 @@
 use borrow.Author.Needs.{needs}
-use Rattle.walk.proofs.Climbing.{deep-enough}
+use Rattle.walk.proofs.KindCodes.{deep-enough}
 use Rattle.walk.proofs.depth.Statement.{statement}
 use Rattle.walk.proofs.depth.Tie as tie
 use Rattle.walk.proofs.depth.Reads as reads

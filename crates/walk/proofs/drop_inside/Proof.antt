@@ -1,5 +1,5 @@
 use borrow.Author.Needs.{needs}
-use Rattle.walk.proofs.Climbing.{third}
+use Rattle.walk.proofs.KindCodes.{third}
 use Rattle.walk.proofs.EraseWalk.{can-drop-as, dropped-as}
 use Rattle.walk.proofs.drop_inside.Statement.{statement}
 use Rattle.walk.proofs.drop_inside.Tie as tie

@@ -1,6 +1,6 @@
 use borrow.Author.Needs.{needs}
 use native.Mathlib.Omega.{arith}
-use Rattle.walk.proofs.Climbing.{third}
+use Rattle.walk.proofs.KindCodes.{third}
 use Rattle.walk.proofs.EndValues.{can-results, can-arguments, own-results, own-arguments, own-nothing}
 use Rattle.walk.proofs.end_own.Statement.{statement}
 use Rattle.walk.proofs.end_own.Tie as tie

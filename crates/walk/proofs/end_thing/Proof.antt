@@ -1,6 +1,6 @@
 use borrow.Author.Needs.{needs}
 use Rattle.context.specs.Memory.{stateOf}
-use Rattle.walk.proofs.Climbing.{third}
+use Rattle.walk.proofs.KindCodes.{third}
 use Rattle.walk.proofs.EraseWalk.{can-end-as, ended-as}
 use Rattle.walk.proofs.end_thing.Statement.{statement}
 use Rattle.walk.proofs.end_thing.Tie as tie

@@ -27,11 +27,11 @@ returns c =
 
 drop-tallied-requires : tie.Need-drop-tallied-requires
 drop-tallied-requires c κs =
-    let s = c .before .before .before .before .before .before .before .before .before in may-tally (s .pre .store) (s .args .k) (s .args .p) (s .pre .kind) (s .pre .live)
+    let s = c .before .before .before .before .before .before .before .before .before in may-tally (s .pre .0 .store) (s .args .k) (s .args .p) (s .pre .0 .kind) (s .pre .0 .live)
 
 erase-inside-requires : tie.Need-erase-inside-requires
 erase-inside-requires c κs =
-    let s = c .before .before .before .before .before .before .before .before .before .before .before .before .before in (s .pre .kind, can-erase (s .args .k) (s .args .p) (s .pre) (c .before .before .before .before .before .before .before .before .erase-refusal .ensures) (c .before .before .before .before .before .if1 .left) (c .before .before .before .drop-tallied .ensures))
+    let s = c .before .before .before .before .before .before .before .before .before .before .before .before .before in (s .pre .0 .kind, can-erase (s .args .k) (s .args .p) (s .pre .0) (c .before .before .before .before .before .before .before .before .erase-refusal .ensures) (c .before .before .before .before .before .if1 .left) (c .before .before .before .drop-tallied .ensures))
 
 same-length-3 : tie.Need-same-length-3
 same-length-3 c =
@@ -43,7 +43,7 @@ same-length-4 c =
 
 returns-2 : tie.Need-returns-2
 returns-2 c =
-    let s = c .before .before .before .before .before .before .before .before .before .before .before .before .before .before .before .before in (done-answer (s .args .k) (s .args .p) (s .pre) (c .before .before .before .before .before .before .before .before .before .before .before .erase-refusal .ensures) (c .before .before .before .before .before .before .before .before .if1 .left) (c .before .before .before .before .before .before .drop-tallied .ensures) (c .before .before .erase-inside .ensures), c .before .before .before .before .before .before .before .before .before .before .before .erase-refusal .ensures .scratch)
+    let s = c .before .before .before .before .before .before .before .before .before .before .before .before .before .before .before .before in (done-answer (s .args .k) (s .args .p) (s .pre .0) (c .before .before .before .before .before .before .before .before .before .before .before .erase-refusal .ensures) (c .before .before .before .before .before .before .before .before .if1 .left) (c .before .before .before .before .before .before .drop-tallied .ensures) (c .before .before .erase-inside .ensures), c .before .before .before .before .before .before .before .before .before .before .before .erase-refusal .ensures .scratch)
 
 pub erase-found-spec : {M : Type 1} → statement M
 erase-found-spec =

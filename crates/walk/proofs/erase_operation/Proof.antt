@@ -37,7 +37,7 @@ returns c =
 
 erase-found-requires : tie.Need-erase-found-requires
 erase-found-requires c κs =
-    let s = c .before .before .before .before .before .before .before .before .before in record { store = s .pre .0; kind = omega arith; live = (live-at (stateOf (s .args .l) (s .args .m .now)) op (s .args .number) (c .before .before .before .f .given .0 .0) (c .before .before .before .before .before .find .result) (c .before .before .before .before .before .find .ensures) (c .before .before .before .f .given .1) .0); long = s .pre .1 .long }
+    let s = c .before .before .before .before .before .before .before .before .before in (record { store = s .pre .0; kind = omega arith; live = (live-at (stateOf (s .args .l) (s .args .m .now)) op (s .args .number) (c .before .before .before .f .given .0 .0) (c .before .before .before .before .before .find .result) (c .before .before .before .before .before .find .ensures) (c .before .before .before .f .given .1) .0); long = s .pre .1 .long }, s .pre .1 .zeros)
 
 same-length-2 : tie.Need-same-length-2
 same-length-2 c =

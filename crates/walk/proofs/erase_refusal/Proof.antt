@@ -1,42 +1,41 @@
+use native.Mathlib.Omega.{arith}
+use Rattle.walk.proofs.Marks.{tested-is}
 use borrow.Author.Needs.{needs}
-use Rattle.walk.proofs.Strays.{tested-is}
 use Rattle.walk.proofs.erase_refusal.Statement.{statement}
 use Rattle.walk.proofs.erase_refusal.Tie as tie
 use Rattle.walk.proofs.erase_refusal.Reads as reads
 use Rattle.walk.proofs.erase_refusal.Lts as lts
-use Rattle.walk.proofs.clear_marks.Reads as clear-marks-reads
 use Rattle.walk.proofs.depth.Reads as depth-reads
-use Rattle.walk.proofs.mark_inside.Reads as mark-inside-reads
+use Rattle.walk.proofs.mark_within.Reads as mark-within-reads
 use Rattle.walk.proofs.test_marked.Reads as test-marked-reads
 
 depth-requires : tie.Need-depth-requires
 depth-requires c κs = search needs
 
-mark-inside-requires : tie.Need-mark-inside-requires
-mark-inside-requires c κs =
-    (c .before .before .before .before .pre, c .before .depth .ensures)
+mark-within-requires : tie.Need-mark-within-requires
+mark-within-requires c κs = search needs
 
 test-marked-requires : tie.Need-test-marked-requires
 test-marked-requires c κs =
-    let s = c .before .before .before .before .before .before .before .before in (record { store = s .pre .store; kind = s .pre .kind; live = s .pre .live; long = c .before .before .before .mark-inside .ensures .long }, c .before .before .before .before .before .depth .ensures)
+    let s = c .before .before .before .before .before .before .before .before in (record { store = s .pre .0 .store; kind = s .pre .0 .kind; live = s .pre .0 .live; long = omega (arith, s .pre .0 .long, c .before .before .before .mark-within .ensures .long) }, c .before .before .before .before .before .depth .ensures)
 
-clear-marks-requires : tie.Need-clear-marks-requires
-clear-marks-requires c κs = search needs
+mark-within-requires-2 : tie.Need-mark-within-requires-2
+mark-within-requires-2 c κs = search needs
 
 same-length : tie.Need-same-length
 same-length c = search needs
 
 returns : tie.Need-returns
 returns c =
-    tested-is (c .before .before .before .before .before .before .before .before .mark-inside .ensures) (c .before .before .before .before .test-marked .ensures) (c .before .before .clear-marks .ensures) (c .before .before .clear-marks .kept .0)
+    let s = c .before .before .before .before .before .before .before .before .before .before .before .before .before in tested-is (s .pre .0) (s .pre .1) (c .before .before .before .before .before .before .before .before .before .before .depth .ensures) (c .before .before .before .before .before .before .before .before .mark-within .ensures) (c .before .before .before .before .test-marked .ensures) (c .before .before .mark-within2 .ensures)
 
 pub erase-refusal-spec : {M : Type 1} → statement M
 erase-refusal-spec =
     tie.close
     (tie.spec
     depth-requires
-    mark-inside-requires
+    mark-within-requires
     test-marked-requires
-    clear-marks-requires
+    mark-within-requires-2
     same-length
     returns)

@@ -56,7 +56,7 @@ nth-of-requires c κs =
 
 erase-found-requires : tie.Need-erase-found-requires
 erase-found-requires c κs =
-    let s = c .before .before .before .before .before .before .before .before .before .before .before .before .before .before in record { store = s .pre .0; kind = omega arith; live = region-live (s .pre .0) (c .before .before .before .before .before .before .before .before .f .given .0 .0) (s .args .number) (s .args .index) (live-at (stateOf (s .args .l) (s .args .m .now)) op (s .args .number) (c .before .before .before .before .before .before .before .before .f .given .0 .0) (c .before .before .before .before .before .before .before .before .before .before .find .result) (c .before .before .before .before .before .before .before .before .before .before .find .ensures) (c .before .before .before .before .before .before .before .before .f .given .1) .0) (live-at (stateOf (s .args .l) (s .args .m .now)) op (s .args .number) (c .before .before .before .before .before .before .before .before .f .given .0 .0) (c .before .before .before .before .before .before .before .before .before .before .find .result) (c .before .before .before .before .before .before .before .before .before .before .find .ensures) (c .before .before .before .before .before .before .before .before .f .given .1) .1) (c .before .before .nth-of .result) (c .before .before .nth-of .ensures); long = s .pre .1 .long }
+    let s = c .before .before .before .before .before .before .before .before .before .before .before .before .before .before in (record { store = s .pre .0; kind = omega arith; live = region-live (s .pre .0) (c .before .before .before .before .before .before .before .before .f .given .0 .0) (s .args .number) (s .args .index) (live-at (stateOf (s .args .l) (s .args .m .now)) op (s .args .number) (c .before .before .before .before .before .before .before .before .f .given .0 .0) (c .before .before .before .before .before .before .before .before .before .before .find .result) (c .before .before .before .before .before .before .before .before .before .before .find .ensures) (c .before .before .before .before .before .before .before .before .f .given .1) .0) (live-at (stateOf (s .args .l) (s .args .m .now)) op (s .args .number) (c .before .before .before .before .before .before .before .before .f .given .0 .0) (c .before .before .before .before .before .before .before .before .before .before .find .result) (c .before .before .before .before .before .before .before .before .before .before .find .ensures) (c .before .before .before .before .before .before .before .before .f .given .1) .1) (c .before .before .nth-of .result) (c .before .before .nth-of .ensures); long = s .pre .1 .long }, s .pre .1 .zeros)
 
 same-length-3 : tie.Need-same-length-3
 same-length-3 c =

@@ -1,4 +1,4 @@
-use Rattle.walk.proofs.Climbing.{third, place-op, place-block, place-region}
+use Rattle.walk.proofs.KindCodes.{third, place-op, place-block, place-region}
 use Rattle.walk.proofs.EraseWalk.{child-op, child-block, child-region}
 use Rattle.walk.proofs.first_child.Statement.{statement}
 use Rattle.walk.proofs.first_child.Tie as tie

@@ -34,6 +34,20 @@ pub record Ones (w r : ℕ) : Type 0 where
   pub below : (j : ℕ) → j < r → digit w j ≡ 1
   pub at : r < 64 → digit w r ≡ 0
 
+-- every place of the cells below k is marked
+pub record Marked (b : List ℕ) (k : ℕ) : Type 0 where
+  pub all : (i : ℕ) → i < 32 * k → 0 < bit b i
+
+-- where r is all ones, so are the four words from cell k on
+pub record Common (b : List ℕ) (k r : ℕ) : Type 0 where
+  pub full : 18446744073709551615 ≤ r → Marked b k → Marked b (k + 8)
+
+-- the search goes on from cell k, the low half of a word
+pub record Skipped (b : List ℕ) (k : ℕ) : Type 0 where
+  pub even : k % 2 ≡ 0
+  pub inside : k ≤ length b
+  pub below : Marked b k
+
 -- the map after place p was flipped
 pub record Flipped (b b′ : List ℕ) (p : ℕ) : Type 0 where
   pub long : length b′ ≡ length b

@@ -4,7 +4,7 @@ ghost use mathlib.Core.Path.{_≡_};
 ghost use mathlib.Core.Bool.{Bool, true, false};
 ghost use Prim.Native.Nat.{ℕ, _+_, _-_, _*_, _/_, _%_, _≤_, _<_};
 ghost use lib.ListN.{length, getD};
-ghost use Rattle.bits.specs.Map.{digit, bit, lowest, Ones, Flipped, Cleared};
+ghost use Rattle.bits.specs.Map.{digit, bit, lowest, Ones, Common, Skipped, Flipped, Cleared};
 
 pub enum Found {
     At(usize),
@@ -28,12 +28,36 @@ fn ones(w: u64) -> u32
     u64::trailing_zeros(!w)
 }
 
+// The bits that four words, from the cell `k` on, have in common: all 64 only where each word is full.
+fn common(b: &[u32], k: usize) -> u64
+    requires { ⌜ k + 7 < length (now b) ⌝ }
+    ensures { λ r. ⌜ Common (now (b .entry)) k r ⌝ }
+{
+    word(b, k) & word(b, k + 2) & word(b, k + 4) & word(b, k + 6)
+}
+
+// A cell below which every place is marked: full words are passed eight at a time, and the rest is left to the search by words.
+fn skip_full(b: &[u32]) -> usize
+    requires { ⌜ length (now b) ≤ 1048576 ⌝ }
+    ensures { λ r. ⌜ Skipped (now (b .entry)) r ⌝ }
+{
+    let mut k = 0;
+    while k + 15 < b.len() {
+        let x = common(b, k) & common(b, k + 8);
+        if x != 18446744073709551615 {
+            return k;
+        }
+        k += 16;
+    }
+    k
+}
+
 // The lowest place below `n` that is not marked, a word at a time.
 pub fn lowest_free(b: &[u32], n: usize) -> Found
     requires { ⌜ (length (now b) % 2 ≡ 0) × ((n ≤ 32 * length (now b)) × (length (now b) ≤ 1048576)) ⌝ }
     ensures { λ r. ⌜ r ≡ lowest (bit (now (b .entry))) n ⌝ }
 {
-    let mut k = 0;
+    let mut k = skip_full(b);
     while k < b.len() {
         let w = word(b, k);
         let j = ones(w);

@@ -2,21 +2,22 @@
 use mathlib.Core.Path.{_≡_, refl, sym, ap, _∙_, subst}
 use mathlib.Core.List.{List, [], _∷_, _++_}
 use native.Mathlib.Omega.{arith}
-use Prim.Native.Nat.{ℕ, zero, suc, _-_, _<_, _≤_}
+use Prim.Native.Nat.{ℕ, zero, suc, _+_, _-_, _<_, _≤_}
 use lib.ListN.{length}
-use Rattle.places.specs.Store.{Fam, regs, opsIn, blocksIn, Thing, State, Live}
+use Rattle.places.specs.Store.{op, blk, reg, Thing, State, Live}
 use Rattle.places.specs.Parts.{nodeIn}
 use Rattle.places.specs.Walk.{cutAll, kids, innards}
 use Rattle.places.proofs.Nest.{kindCode}
 use Rattle.places.proofs.Erase.{Free}
 use Rattle.places.proofs.Runs.{measure}
 use Rattle.context.specs.declared.Layout.{Layout}
-use Rattle.context.specs.Layout.{kindOf}
+use Rattle.context.specs.Layout.{kindOf, famOf, ncOf}
 use Rattle.context.specs.Memory.{part, stateOf, SoundStore, headCode, FirstIs}
 use Rattle.context.specs.Steps.{CanEnd, Ended}
+use Rattle.context.proofs.Places.{place<}
 use Rattle.walk.specs.declared.Walked.{Walked}
 use Rattle.walk.specs.Drop.{CanDrop, Dropped}
-use Rattle.walk.specs.Erase.{CanErase, Erased, OwnEnded, innerCode, ChildIs}
+use Rattle.walk.specs.Erase.{CanErase, Erased, OwnEnded, innerCode}
 use Rattle.walk.proofs.DropWalk.{Nests, in-op, in-region, in-block, first-code, kid-is, kid-lives}
 use Rattle.walk.proofs.EraseLaws.{Erasing, begins, reads, still-free, shrinks, goes-on, empty, ends, left-kids, still-live, own-none, own-measure, own-rest, own-free, own-live, to-free, from-free}
 
@@ -40,26 +41,24 @@ inner-next (suc zero) h n = refl
 inner-next (suc (suc zero)) h n = refl
 inner-next (suc (suc (suc k))) h n = absurd (omega arith)
 
-pub record Inner (l : Layout) (k p : ℕ) : Type 0 where
-  pub family : Fam
-  pub nests : Nests l family (kindOf k, p)
-  pub kind : nodeIn family ≡ kindOf (innerCode k)
-
-pub inner : (l : Layout) (k p : ℕ) → k ≤ 2 → Inner l k p
-inner l zero p h = record { family = regs; nests = in-op l p; kind = refl }
-inner l (suc zero) p h = record { family = opsIn; nests = in-block l p; kind = refl }
-inner l (suc (suc zero)) p h = record { family = blocksIn; nests = in-region l p; kind = refl }
+-- what lies directly in a thing of the kind k is a list of the family 3 + k
+pub inner : (l : Layout) (k p : ℕ) → k ≤ 2 → Nests l (famOf (3 + k)) (kindOf k, p)
+inner l zero p h = in-op l p
+inner l (suc zero) p h = in-block l p
+inner l (suc (suc zero)) p h = in-region l p
 inner l (suc (suc (suc k))) p h = absurd (omega arith)
 
-module _ {l : Layout} {m : List ℕ} (S : SoundStore l m) (k p c : ℕ) where
-  pub child-op : k ≡ 0 → FirstIs l regs p m c → ChildIs l (kindOf k, p) m c
-  child-op z F = subst (λ (i : ℕ). ChildIs l (kindOf i, p) m c) (sym z) (record { is = first-code (in-op l p) m (S .sound .linked) c F })
+pub inner-node : (k : ℕ) → k ≤ 2 → nodeIn (famOf (3 + k)) ≡ kindOf (innerCode k)
+inner-node zero h = refl
+inner-node (suc zero) h = refl
+inner-node (suc (suc zero)) h = refl
+inner-node (suc (suc (suc k))) h = absurd (omega arith)
 
-  pub child-block : k ≡ 1 → FirstIs l opsIn p m c → ChildIs l (kindOf k, p) m c
-  child-block z F = subst (λ (i : ℕ). ChildIs l (kindOf i, p) m c) (sym z) (record { is = first-code (in-block l p) m (S .sound .linked) c F })
-
-  pub child-region : k ≡ 2 → FirstIs l blocksIn p m c → ChildIs l (kindOf k, p) m c
-  child-region z F = subst (λ (i : ℕ). ChildIs l (kindOf i, p) m c) (sym z) (record { is = first-code (in-region l p) m (S .sound .linked) c F })
+pub inner-list : {l : Layout} {m : List ℕ} (S : SoundStore l m) (k p : ℕ) → k ≤ 2 → Live (stateOf l m) (kindOf k, p) → p < ncOf l (famOf (3 + k))
+inner-list S zero p h v = place< S (op, p) v
+inner-list S (suc zero) p h v = place< S (blk, p) v
+inner-list S (suc (suc zero)) p h v = place< S (reg, p) v
+inner-list S (suc (suc (suc k))) p h v = absurd (omega arith)
 
 -- ---- the loop, begun at m₀, come to the code c
 
@@ -77,13 +76,13 @@ module _ {l : Layout} {m m₀ : List ℕ} (k p : ℕ) (k≤ : k ≤ 2) (C : CanE
   pub started-live : Live (stateOf l m₀) x
   started-live = own-live (C .store .sound) x (code≤ k k≤) (to-free (C .unused)) (O .state) (C .live)
 
-  pub started : (c : ℕ) → ChildIs l x m₀ c → Going l x m₀ m₀ c
+  pub started : (c : ℕ) → FirstIs l (famOf (3 + k)) p m₀ c → Going l x m₀ m₀ c
   started c F =
       record {
         store = O .store;
         begun = started-live;
         rest = refl;
-        going = begins c (O .store .sound) (code≤ k k≤) (own-free (C .store .sound) x (code≤ k k≤) (to-free (C .unused)) (O .state)) (own-none (C .store .sound) x (code≤ k k≤) (to-free (C .unused)) (O .state)) (F .is);
+        going = begins c (O .store .sound) (code≤ k k≤) (own-free (C .store .sound) x (code≤ k k≤) (to-free (C .unused)) (O .state)) (own-none (C .store .sound) x (code≤ k k≤) (to-free (C .unused)) (O .state)) (first-code (inner l k p k≤) m₀ (O .store .sound .linked) c F);
       }
 
   -- all has ended
@@ -139,19 +138,16 @@ module _ {l : Layout} {m₀ m : List ℕ} (k p c j : ℕ) (k≤ : k ≤ 2) (j= :
   now-kids : kids Q X ≡ w ∷ r
   now-kids = reads (G .going) w r parts
 
-  I : Inner l k p
-  I = inner l k p k≤
-
   kid : w ≡ y
   kid =
       let n : w .1 ≡ c - 1 = omega (arith, next .code) in
-      kid-is (I .nests) m (G .store .sound .linked) [] w r now-kids ∙ (λ i. ((I .kind ∙ ap kindOf (sym j=)) i, n i))
+      kid-is (inner l k p k≤) m (G .store .sound .linked) [] w r now-kids ∙ (λ i. ((inner-node k k≤ ∙ ap kindOf (sym j=)) i, n i))
 
   pub child-can : CanErase l y m
   child-can =
       record {
         store = G .store;
-        live = subst (λ (t : Thing). Live Q t) (sym (kid-is (I .nests) m (G .store .sound .linked) [] w r now-kids) ∙ kid) (kid-lives (I .nests) m (G .store .sound .linked) [] w r now-kids);
+        live = subst (λ (t : Thing). Live Q t) (sym (kid-is (inner l k p k≤) m (G .store .sound .linked) [] w r now-kids) ∙ kid) (kid-lives (inner l k p k≤) m (G .store .sound .linked) [] w r now-kids);
         unused = from-free (subst (λ (t : Thing). Free Q t) kid (still-free (G .going) w r parts));
       }
 
@@ -172,8 +168,8 @@ module _ {l : Layout} {m₀ m : List ℕ} (k p c j : ℕ) (k≤ : k ≤ 2) (j= :
     pub after-live : Live (stateOf l m′) X
     after-live = still-live G₁ (G .begun)
 
-    pub turn : (d : ℕ) → ChildIs l X m′ d → Going l X m₀ m′ d
-    turn d F = record { store = E .store; begun = G .begun; rest = E .rest ∙ G .rest; going = goes-on (G .going) w r parts d gone (F .is ∙ ap headCode left) }
+    pub turn : (d : ℕ) → FirstIs l (famOf (3 + k)) p m′ d → Going l X m₀ m′ d
+    turn d F = record { store = E .store; begun = G .begun; rest = E .rest ∙ G .rest; going = goes-on (G .going) w r parts d gone (first-code (inner l k p k≤) m′ (E .store .sound .linked) d F ∙ ap headCode left) }
 
     pub fewer : length (kids (stateOf l m′) X) < length (kids Q X)
     fewer = omega (arith, ap length left, ap length now-kids)

@@ -28,9 +28,6 @@ module _ {l : Layout} {m : List ℕ} (S : SoundStore l m) (j q : ℕ) where
   pub place-block : j ≡ 1 → Live (stateOf l m) (kindOf j, q) → q < l .blocks
   place-block e v = place< S (blk, q) (subst (λ (i : ℕ). Live (stateOf l m) (kindOf i, q)) e v)
 
-  pub place-region : j ≡ 2 → Live (stateOf l m) (kindOf j, q) → q < l .regions
-  place-region e v = place< S (reg, q) (subst (λ (i : ℕ). Live (stateOf l m) (kindOf i, q)) e v)
-
 -- ---- a depth that is enough
 
 population-is : (P : State) → population P ≡ length (P .tab op .order) + (length (P .tab blk .order) + (length (P .tab reg .order) + (length (P .tab val .order) + length (P .tab usg .order))))

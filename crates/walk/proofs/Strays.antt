@@ -26,10 +26,10 @@ use Rattle.context.proofs.Cursor.{row, At, here}
 use Rattle.context.proofs.Places.{place<}
 use Rattle.walk.specs.Erase.{innerCode}
 use Rattle.walk.specs.Tests.{within, stray, straySet, strayValue, strayThing, DepthIs, Testable, eraseCode}
-use Rattle.walk.proofs.DropWalk.{in-op, in-block, in-region, list-of}
+use Rattle.walk.proofs.DropWalk.{list-of}
 use Rattle.walk.proofs.JudgeLaws.{con-block-uses}
 use Rattle.walk.proofs.EraseLaws.{region-none}
-use Rattle.walk.proofs.EraseWalk.{inner≤}
+use Rattle.walk.proofs.EraseWalk.{inner≤, inner, inner-node}
 
 pub con-value-uses : (l : Layout) (k : ℕ) → k < l .values → con l useSets k ≡ (valueUses, (val, k))
 unfolding rowsOf
@@ -45,30 +45,15 @@ con-arguments l b =
     let q : l .ops + b - l .ops ≡ b = omega arith in
     if-neg {C = Con} (decLt (l .ops + b) (l .ops)) (λ h. absurd (omega (arith, h))) (results, (op, l .ops + b)) (arguments, (blk, l .ops + b - l .ops)) ∙ ap (λ (p : ℕ). (arguments, (blk, p))) q
 
--- ---- what lies directly in a thing of the kind k is the list of its family
+-- ---- what lies directly in a thing of the kind k
 
 pub nest-row : {l : Layout} {m : List ℕ} (S : SoundStore l m) (k p : ℕ) → k ≤ 2 → row l (famOf (3 + k)) p m ≡ kids (stateOf l m) (kindOf k, p)
-nest-row {l} {m} S zero p h = sym (list-of (in-op l p) m (S .sound .linked))
-nest-row {l} {m} S (suc zero) p h = sym (list-of (in-block l p) m (S .sound .linked))
-nest-row {l} {m} S (suc (suc zero)) p h = sym (list-of (in-region l p) m (S .sound .linked))
-nest-row S (suc (suc (suc k))) p h = absurd (omega arith)
-
-nest-node : (k : ℕ) → k ≤ 2 → nodeIn (famOf (3 + k)) ≡ kindOf (innerCode k)
-nest-node zero h = refl
-nest-node (suc zero) h = refl
-nest-node (suc (suc zero)) h = refl
-nest-node (suc (suc (suc k))) h = absurd (omega arith)
-
-pub nest-list : {l : Layout} {m : List ℕ} (S : SoundStore l m) (k p : ℕ) → k ≤ 2 → Live (stateOf l m) (kindOf k, p) → p < ncOf l (famOf (3 + k))
-nest-list S zero p h v = place< S (op, p) v
-nest-list S (suc zero) p h v = place< S (blk, p) v
-nest-list S (suc (suc zero)) p h v = place< S (reg, p) v
-nest-list S (suc (suc (suc k))) p h v = absurd (omega arith)
+nest-row {l} {m} S k p h = sym (list-of (inner l k p h) m (S .sound .linked))
 
 -- the one that the loop has come to
 module _ {l : Layout} {m s : List ℕ} {k p c j : ℕ} (T : Testable l k p m s) (A : At l (famOf (3 + k)) p m c) (h : c ≡ 0 → ⊥) (e : j ≡ innerCode k) where
   pub child-is : _≡_ {A = Thing} (nodeIn (famOf (3 + k)), c - 1) (kindOf j, c - 1)
-  child-is = ap {B = Thing} (λ t. (t, c - 1)) (nest-node k (T .kind) ∙ ap kindOf (sym e))
+  child-is = ap {B = Thing} (λ t. (t, c - 1)) (inner-node k (T .kind) ∙ ap kindOf (sym e))
 
   pub child-testable : {s′ : List ℕ} → length s′ ≡ length s → Testable l j (c - 1) m s′
   child-testable q =

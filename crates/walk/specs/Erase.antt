@@ -6,12 +6,12 @@ use Prim.Native.Nat.{ℕ, zero, suc, _<_}
 use lib.ListN.{length}
 use Rattle.seqs.specs.Seqs.{In}
 use Rattle.places.specs.Store.{op, Role, vals, Thing, Thing-dec, Con, Con-dec, State, Live}
-use Rattle.places.specs.Walk.{sgn, cutAll, kids, walk, usesAt, valuesAt, defSets, dropList, dropped, innards}
+use Rattle.places.specs.Walk.{sgn, cutAll, walk, usesAt, valuesAt, defSets, dropList, dropped, innards}
 use Rattle.edit.specs.declared.Answer.{Answer}
 use Rattle.edit.specs.declared.Answer.the-variants.{Accepted, Refused}
 use Rattle.context.specs.declared.Layout.{Layout}
 use Rattle.context.specs.Layout.{ncOf}
-use Rattle.context.specs.Memory.{part, con, stateOf, SoundStore, headCode}
+use Rattle.context.specs.Memory.{part, con, stateOf, SoundStore}
 use Rattle.context.specs.Reading.{listOf}
 use Rattle.walk.specs.Drop.{operations}
 use Rattle.walk.specs.Tests.{eraseCode}
@@ -56,10 +56,6 @@ abbrev pub innerCode : ℕ → ℕ
 innerCode zero = 2
 innerCode (suc zero) = 0
 innerCode (suc (suc k)) = 1
-
--- r stands for the first thing that lies in x
-pub record ChildIs (l : Layout) (x : Thing) (m : List ℕ) (r : ℕ) : Type 0 where
-  pub is : r ≡ headCode (kids (stateOf l m) x)
 
 -- ---- the edit, once the thing is found
 

@@ -20,7 +20,7 @@ ghost use lib.ListN.{length};
 ghost use Rattle.context.specs.Layout.{kindOf, ncOf};
 ghost use Rattle.context.specs.Reading.{listOf};
 ghost use Rattle.walk.specs.Tests.{within, alone, DepthIs, Testable, Given, stray, straySet, strayValue, strayThing, marksIn, eraseCode, Zeros, Tested, Scratch};
-ghost use Rattle.walk.specs.Erase.{CanErase, Erased, CanEndValues, EndedValues, OwnEnded, innerCode, ChildIs, EraseAnswer};
+ghost use Rattle.walk.specs.Erase.{CanErase, Erased, CanEndValues, EndedValues, OwnEnded, innerCode, EraseAnswer};
 ghost use Rattle.context.specs.Steps.{CanEnd, Ended};
 
 // What a walk carries along: the operations not yet reached, those reached, and the uses ended.
@@ -653,20 +653,7 @@ fn end_own(m: &mut [u32], l: Layout, k: usize, p: usize)
     }
 }
 
-// The first thing that lies in the one of the kind `k` at `p`.
-fn first_child(m: &[u32], l: Layout, k: usize, p: usize) -> usize
-    requires { ⌜ SoundStore l (now m) × (k ≤ 2) × Live (stateOf l (now m)) (kindOf k, p) ⌝ }
-    ensures { λ r. ⌜ ChildIs l (kindOf k, p) (now (m .entry)) r ⌝ }
-{
-    if k == 0 {
-        return context::first_of(m, l, 3, p);
-    }
-    if k == 1 {
-        return context::first_of(m, l, 4, p);
-    }
-    context::first_of(m, l, 5, p)
-}
-
+// The code of the kind of what lies in a thing of the kind `k`.
 fn inner_kind(k: usize) -> usize
     requires { ⌜ k ≤ 2 ⌝ }
     ensures { λ r. ⌜ r ≡ innerCode k ⌝ }
@@ -702,10 +689,10 @@ pub fn erase_inside(m: &mut [u32], l: Layout, k: usize, p: usize)
 {
     end_own(m, l, k, p);
     let j = inner_kind(k);
-    let mut c = first_child(m, l, k, p);
+    let mut c = context::first_of(m, l, 3 + k, p);
     while c != 0 {
         erase_inside(m, l, j, c - 1);
-        c = first_child(m, l, k, p);
+        c = context::first_of(m, l, 3 + k, p);
     }
     end_thing(m, l, k, p);
 }

@@ -7,7 +7,7 @@ use Rattle.context.specs.Memory.{stateOf}
 use lib.ListN.{length}
 use Rattle.places.specs.Walk.{kids}
 use Rattle.places.proofs.Runs.{measure}
-use Rattle.walk.proofs.EraseWalk.{Going, inner≤, started, started-live, finished, size-kept, can-end, child-can, child-less, after-live, turn, fewer}
+use Rattle.walk.proofs.EraseWalk.{Going, inner≤, inner-list, started, started-live, finished, size-kept, can-end, child-can, child-less, after-live, turn, fewer}
 use borrow.Fn.Kinds.{In}
 use borrow.Fn.PlainCycle.{Measures, is, falls, and}
 use Rattle.walk.proofs.erase_inside.Reads as erase-inside
@@ -15,7 +15,7 @@ use Rattle.walk.proofs.erase_inside.Kinds as erase-inside-kinds
 use Rattle.walk.proofs.+erase_inside.Lts-erase_inside as erase-inside-lts
 use Rattle.walk.proofs.end_own.Reads as end-own-reads
 use Rattle.walk.proofs.end_thing.Reads as end-thing-reads
-use Rattle.walk.proofs.first_child.Reads as first-child-reads
+use Rattle.context.proofs.first_of.Reads as first-of-reads
 use Rattle.walk.proofs.inner_kind.Reads as inner-kind-reads
 use Rattle.walk.proofs.+erase_inside.{statement}
 use Rattle.walk.proofs.+erase_inside.Tie.{close}
@@ -38,7 +38,7 @@ erase-inside-below t =
 -- what its callees ask and tell
 abbrev erase-inside-claims : ℕ → erase-inside-lts.Claims
 erase-inside-claims t =
-    (end-own-reads.Asked, end-own-reads.Learnt, inner-kind-reads.Asked, inner-kind-reads.Learnt, first-child-reads.Asked, first-child-reads.Learnt, erase-inside-below t, erase-inside.Post, end-thing-reads.Asked, end-thing-reads.Learnt)
+    (end-own-reads.Asked, end-own-reads.Learnt, inner-kind-reads.Asked, inner-kind-reads.Learnt, first-of-reads.Asked, first-of-reads.Learnt, erase-inside-below t, erase-inside.Post, end-thing-reads.Asked, end-thing-reads.Learnt)
 
 abbrev Inv-loop : erase-inside-lts.InvT-loop
 Inv-loop m₀ l k p j c₀ m c = Going l (kindOf k, p) m₀ m c × (length m ≡ length m₀)
@@ -54,13 +54,17 @@ inner-kind-requires : (t : ℕ) → erase-inside-lts.Need-inner-kind-requires (e
 inner-kind-requires t c κs =
     let s = c .before .before .before .before .before in s .pre .1 .0
 
-first-child-requires : (t : ℕ) → erase-inside-lts.Need-first-child-requires (erase-inside-claims t) (erase-inside-at t) erase-inside.Post Inv-loop μ-loop
-first-child-requires t c κs =
-    let s = c .before .before .before .before .before .before .before in (c .before .before .before .before .end-own .ensures .store, s .pre .1 .0, started-live (s .args .k) (s .args .p) (s .pre .1 .0) (s .pre .1 .1) (c .before .before .before .before .end-own .ensures))
+add-first-of : (t : ℕ) → erase-inside-lts.Need-add-first-of (erase-inside-claims t) (erase-inside-at t) erase-inside.Post Inv-loop μ-loop
+add-first-of t c =
+    let s = c .before .before .before .before .before .before .before in omega (arith, s .pre .1 .0)
+
+first-of-requires : (t : ℕ) → erase-inside-lts.Need-first-of-requires (erase-inside-claims t) (erase-inside-at t) erase-inside.Post Inv-loop μ-loop
+first-of-requires t c κs =
+    let s = c .before .before .before .before .before .before .before in (c .before .before .before .before .end-own .ensures .store .well, inner-list (c .before .before .before .before .end-own .ensures .store) (s .args .k) (s .args .p) (s .pre .1 .0) (started-live (s .args .k) (s .args .p) (s .pre .1 .0) (s .pre .1 .1) (c .before .before .before .before .end-own .ensures)))
 
 loop-holds : (t : ℕ) → erase-inside-lts.Need-loop-holds (erase-inside-claims t) (erase-inside-at t) erase-inside.Post Inv-loop μ-loop
 loop-holds t c =
-    let s = c .before .before .before .before .before .before .before .before in (started (s .args .k) (s .args .p) (s .pre .1 .0) (s .pre .1 .1) (c .before .before .before .before .before .end-own .ensures) (c .first-child .result) (c .first-child .ensures), refl)
+    let s = c .before .before .before .before .before .before .before .before in (started (s .args .k) (s .args .p) (s .pre .1 .0) (s .pre .1 .1) (c .before .before .before .before .before .end-own .ensures) (c .first-of .result) (c .first-of .ensures), refl)
 
 sub-erase-inside : (t : ℕ) → erase-inside-lts.Need-sub-erase-inside (erase-inside-claims t) (erase-inside-at t) erase-inside.Post Inv-loop μ-loop
 sub-erase-inside t c =
@@ -70,9 +74,13 @@ erase-inside-requires : (t : ℕ) → erase-inside-lts.Need-erase-inside-require
 erase-inside-requires t c κs =
     let s = c .before .before .before .before .before .before .before .before .before .before .before in (omega (arith, s .pre .0, size-kept (s .args .k) (s .args .p) (s .pre .1 .0) (s .pre .1 .1) (c .before .before .before .before .before .before .before .before .end-own .ensures), child-less (s .args .k) (s .args .p) (c .before .before .loop .c) (c .before .before .before .before .before .inner-kind .result) (s .pre .1 .0) (c .before .before .before .before .before .inner-kind .ensures) (c .before .before .loop .inv .0) (c .before .loop-test .taken)), (omega (arith, inner≤ (s .args .k), c .before .before .before .before .before .inner-kind .ensures), child-can (s .args .k) (s .args .p) (c .before .before .loop .c) (c .before .before .before .before .before .inner-kind .result) (s .pre .1 .0) (c .before .before .before .before .before .inner-kind .ensures) (c .before .before .loop .inv .0) (c .before .loop-test .taken)))
 
-first-child-requires-2 : (t : ℕ) → erase-inside-lts.Need-first-child-requires-2 (erase-inside-claims t) (erase-inside-at t) erase-inside.Post Inv-loop μ-loop
-first-child-requires-2 t c κs =
-    let s = c .before .before .before .before .before .before .before .before .before .before .before .before .before .before .before in (c .before .before .before .erase-inside .ensures .store, s .pre .1 .0, after-live (s .args .k) (s .args .p) (c .before .before .before .before .before .before .loop .c) (c .before .before .before .before .before .before .before .before .before .inner-kind .result) (s .pre .1 .0) (c .before .before .before .before .before .before .before .before .before .inner-kind .ensures) (c .before .before .before .before .before .before .loop .inv .0) (c .before .before .before .before .before .loop-test .taken) (c .before .before .before .erase-inside .ensures))
+add-first-of-2 : (t : ℕ) → erase-inside-lts.Need-add-first-of-2 (erase-inside-claims t) (erase-inside-at t) erase-inside.Post Inv-loop μ-loop
+add-first-of-2 t c =
+    let s = c .before .before .before .before .before .before .before .before .before .before .before .before .before .before .before in omega (arith, s .pre .1 .0)
+
+first-of-requires-2 : (t : ℕ) → erase-inside-lts.Need-first-of-requires-2 (erase-inside-claims t) (erase-inside-at t) erase-inside.Post Inv-loop μ-loop
+first-of-requires-2 t c κs =
+    let s = c .before .before .before .before .before .before .before .before .before .before .before .before .before .before .before in (c .before .before .before .erase-inside .ensures .store .well, inner-list (c .before .before .before .erase-inside .ensures .store) (s .args .k) (s .args .p) (s .pre .1 .0) (after-live (s .args .k) (s .args .p) (c .before .before .before .before .before .before .loop .c) (c .before .before .before .before .before .before .before .before .before .inner-kind .result) (s .pre .1 .0) (c .before .before .before .before .before .before .before .before .before .inner-kind .ensures) (c .before .before .before .before .before .before .loop .inv .0) (c .before .before .before .before .before .loop-test .taken) (c .before .before .before .erase-inside .ensures)))
 
 loop-less : (t : ℕ) → erase-inside-lts.Need-loop-less (erase-inside-claims t) (erase-inside-at t) erase-inside.Post Inv-loop μ-loop
 loop-less t c =
@@ -80,7 +88,7 @@ loop-less t c =
 
 loop-again : (t : ℕ) → erase-inside-lts.Need-loop-again (erase-inside-claims t) (erase-inside-at t) erase-inside.Post Inv-loop μ-loop
 loop-again t c =
-    let s = c .before .before .before .before .before .before .before .before .before .before .before .before .before .before .before .before in (turn (s .args .k) (s .args .p) (c .before .before .before .before .before .before .before .loop .c) (c .before .before .before .before .before .before .before .before .before .before .inner-kind .result) (s .pre .1 .0) (c .before .before .before .before .before .before .before .before .before .before .inner-kind .ensures) (c .before .before .before .before .before .before .before .loop .inv .0) (c .before .before .before .before .before .before .loop-test .taken) (c .before .before .before .before .erase-inside .ensures) (c .first-child2 .result) (c .first-child2 .ensures), c .before .before .before .before .erase-inside .kept .0 ∙ c .before .before .before .before .before .before .before .loop .inv .1)
+    let s = c .before .before .before .before .before .before .before .before .before .before .before .before .before .before .before .before in (turn (s .args .k) (s .args .p) (c .before .before .before .before .before .before .before .loop .c) (c .before .before .before .before .before .before .before .before .before .before .inner-kind .result) (s .pre .1 .0) (c .before .before .before .before .before .before .before .before .before .before .inner-kind .ensures) (c .before .before .before .before .before .before .before .loop .inv .0) (c .before .before .before .before .before .before .loop-test .taken) (c .before .before .before .before .erase-inside .ensures) (c .first-of2 .result) (c .first-of2 .ensures), c .before .before .before .before .erase-inside .kept .0 ∙ c .before .before .before .before .before .before .before .loop .inv .1)
 
 end-thing-requires : (t : ℕ) → erase-inside-lts.Need-end-thing-requires (erase-inside-claims t) (erase-inside-at t) erase-inside.Post Inv-loop μ-loop
 end-thing-requires t c κs =
@@ -102,11 +110,13 @@ pub +erase-inside-spec : {M : Type 1} → statement M
     μ-loop
     (end-own-requires t)
     (inner-kind-requires t)
-    (first-child-requires t)
+    (add-first-of t)
+    (first-of-requires t)
     (loop-holds t)
     (sub-erase-inside t)
     (erase-inside-requires t)
-    (first-child-requires-2 t)
+    (add-first-of-2 t)
+    (first-of-requires-2 t)
     (loop-less t)
     (loop-again t)
     (end-thing-requires t)

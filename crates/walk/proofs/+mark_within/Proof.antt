@@ -6,7 +6,8 @@ use mathlib.Core.Path.{_≡_, refl, sym, ap, _∙_}
 use native.Mathlib.Omega.{arith}
 use Rattle.context.specs.Layout.{famOf}
 use Rattle.context.proofs.Cursor.{ahead, here, next-less}
-use Rattle.walk.proofs.Strays.{nest-list, child-testable}
+use Rattle.walk.proofs.EraseWalk.{inner-list}
+use Rattle.walk.proofs.Strays.{child-testable}
 use Rattle.walk.proofs.Marks.{given-nowhere, Marking, marking, marking-on, marked}
 use Prim.Native.Nat.{ℕ, _+_, _-_, _<_}
 use borrow.Fn.Kinds.{In}
@@ -61,7 +62,7 @@ add-first-of t c =
 
 first-of-requires : (t : ℕ) → mark-within-lts.Need-first-of-requires (claims t) (mark-within-at t) mark-within.Post Inv-loop μ-loop
 first-of-requires t c κs =
-    let s = c .before .before .before .before .before .before .before .before in (s .pre .1 .store .well, nest-list (s .pre .1 .store) (s .args .k) (s .args .p) (s .pre .1 .kind) (s .pre .1 .live))
+    let s = c .before .before .before .before .before .before .before .before in (s .pre .1 .store .well, inner-list (s .pre .1 .store) (s .args .k) (s .args .p) (s .pre .1 .kind) (s .pre .1 .live))
 
 loop-holds : (t : ℕ) → mark-within-lts.Need-loop-holds (claims t) (mark-within-at t) mark-within.Post Inv-loop μ-loop
 loop-holds t c =

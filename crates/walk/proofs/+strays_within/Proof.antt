@@ -7,7 +7,8 @@ use Rattle.context.specs.Memory.{stateOf}
 use Rattle.context.proofs.Cursor.{ahead, here, next-less}
 use Rattle.walk.specs.Tests.{strayThing, marksIn}
 use Rattle.walk.proofs.Search.{Searching, searching, hit, miss, over}
-use Rattle.walk.proofs.Strays.{nest-list, child-is, child-testable, inTest, test-own, test-inside, test-none}
+use Rattle.walk.proofs.EraseWalk.{inner-list}
+use Rattle.walk.proofs.Strays.{child-is, child-testable, inTest, test-own, test-inside, test-none}
 use Prim.Native.Nat.{ℕ, _+_, _-_, _<_}
 use borrow.Fn.Kinds.{In}
 use borrow.Fn.PlainCycle.{Measures, is, falls, and}
@@ -69,7 +70,7 @@ add-first-of t c =
 
 first-of-requires : (t : ℕ) → strays-within-lts.Need-first-of-requires (claims t) (strays-within-at t) strays-within.Post Inv-loop μ-loop
 first-of-requires t c κs =
-    let s = c .before .before .before .before .before .before in (s .pre .1 .store .well, nest-list (s .pre .1 .store) (s .args .k) (s .args .p) (s .pre .1 .kind) (s .pre .1 .live))
+    let s = c .before .before .before .before .before .before in (s .pre .1 .store .well, inner-list (s .pre .1 .store) (s .args .k) (s .args .p) (s .pre .1 .kind) (s .pre .1 .live))
 
 loop-holds : (t : ℕ) → strays-within-lts.Need-loop-holds (claims t) (strays-within-at t) strays-within.Post Inv-loop μ-loop
 loop-holds t c =

@@ -56,42 +56,41 @@ fn part_at(at: usize, nc: usize, nn: usize) -> Span
     }
 }
 
-// Where the table of a kind stands: operations, blocks, regions, values, uses.
+// Where the table of a kind stands: operations, blocks, regions, values, uses. A size is worked out only where it is needed.
 pub fn table_span(l: Layout, k: usize) -> Span
     requires { ⌜ Caps l ⌝ }
     ensures { λ r. ⌜ RoomOf l (kindOf k) r ⌝ }
 {
-    let a = arena_size(l.ops);
-    let b = arena_size(l.blocks);
-    let r = arena_size(l.regions);
-    let v = arena_size(l.values);
-    let u = arena_size(l.uses);
     if k == 0 {
-        return part_at(5, l.ops, a);
+        return part_at(5, l.ops, arena_size(l.ops));
     }
+    let a = 5 + arena_size(l.ops);
     if k == 1 {
-        return part_at(5 + a, l.blocks, b);
+        return part_at(a, l.blocks, arena_size(l.blocks));
     }
+    let b = a + arena_size(l.blocks);
     if k == 2 {
-        return part_at(5 + a + b, l.regions, r);
+        return part_at(b, l.regions, arena_size(l.regions));
     }
+    let c = b + arena_size(l.regions);
     if k == 3 {
-        return part_at(5 + a + b + r, l.values, v);
+        return part_at(c, l.values, arena_size(l.values));
     }
-    part_at(5 + a + b + r + v, l.uses, u)
+    part_at(c + arena_size(l.values), l.uses, arena_size(l.uses))
 }
 
-// Where the families start.
+// Where the families start: past the header and the five tables, with the words of their occupancy maps summed first, which is less work.
 fn families_at(l: Layout) -> usize
     requires { ⌜ Caps l ⌝ }
     ensures { λ r. ⌜ FamiliesAt l r ⌝ }
 {
-    let a = arena_size(l.ops);
-    let b = arena_size(l.blocks);
-    let r = arena_size(l.regions);
-    let v = arena_size(l.values);
-    let u = arena_size(l.uses);
-    5 + a + b + r + v + u
+    let n = l.ops + l.blocks + l.regions + l.values + l.uses;
+    let w = (l.ops + 63) / 64
+        + (l.blocks + 63) / 64
+        + (l.regions + 63) / 64
+        + (l.values + 63) / 64
+        + (l.uses + 63) / 64;
+    15 + 2 * (n + w)
 }
 
 // Where a family stands: slots, use sets, values, regions, operations in blocks, blocks in regions.

@@ -330,7 +330,7 @@ pub fn nth_live(m: &[u32], l: Layout, k: usize, i: usize) -> usize
 }
 
 // Where the flags start.
-fn flags_at(l: Layout) -> usize
+pub fn flags_at(l: Layout) -> usize
     requires { ⌜ Caps l ⌝ }
     ensures { λ r. ⌜ TagsAt l op r ⌝ }
 {

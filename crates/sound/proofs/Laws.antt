@@ -1,237 +1,213 @@
--- The parts of a buffer, each well formed, are what the tests ask for; what they find is that the buffer is sound. Assumes nothing.
-use mathlib.Core.Path.{_≡_, refl, sym, ap, ap₂, _∙_, subst}
-use mathlib.Core.Logic.{_↔_}
+-- The parts of a well-formed buffer as the tests across them read it; what they find is that the store is sound. Assumes nothing.
+use mathlib.Core.Path.{_≡_, refl, sym, ap, _∙_, subst}
 use mathlib.Core.Bool.{Bool, true, false}
 use mathlib.Core.List.{List, [], _∷_}
 use native.Mathlib.Omega.{arith}
 use Prim.Native.Nat.{ℕ, zero, suc, _+_, _-_, _*_, _<_, _≤_}
-use lib.ListN.{length, getD, take, drop, length-drop, length-take}
-use lib.Seq.{length-take-le, take-take}
-use Rattle.places.specs.Store.{Kind, op, blk, reg, val, usg, Fam, slots, useSets, vals, regs, opsIn, blocksIn}
-use Rattle.table.specs.Table.{Table, Says}
-use Rattle.linked_list.specs.Links.{Linked, Sizes}
-use Rattle.arena.specs.Packed.{Packed}
-use Rattle.sound_parts.specs.Cross.{Crossed, SoundBy}
-use Rattle.sound_parts.specs.Memory.{Mem, cellsOf, partsOf, Formed, Checked, SoundMem, memOf, nc, nn}
-use Rattle.sound_parts.specs.Tests.{Fits, Nest, UsesIn, UsesOk, ValsIn, ValsOk, NestIn, NestOk}
+use lib.ListN.{length, getD, take, drop}
+use lib.Seq.{take-take}
+use Rattle.seqs.specs.Seqs.{Says}
+use Rattle.seqs.specs.Split.{split, start, length-part}
+use Rattle.seqs.proofs.Says.{says-map}
+use Rattle.table.specs.Table as T
+use Rattle.linked_list.specs.Links.{home, Linked, Sizes}
+use Rattle.arena.specs.Packed.{front}
+use Rattle.places.specs.Store.{Kind, op, blk, reg, val, usg, Fam, slots, useSets, vals, regs, opsIn, blocksIn, Sound}
+use Rattle.places.specs.Parts.{Parts, rowsOf, store}
+use Rattle.context.specs.declared.Layout.{Layout}
+use Rattle.context.specs.declared.Span.{Span}
+use Rattle.context.specs.Layout.{arena, capOf, ncOf, nnOf, sizes, total, kindPart, famPart, Caps, SpanOf, RoomOf, TagsAt}
+use Rattle.context.specs.Memory.{part, decode, partsOf, layoutOf, stateOf, Well, SoundStore}
+use Rattle.context.proofs.Pieces.{lent, fam-part<, kind-part<}
+use Rattle.context.proofs.Books as books
+use Rattle.context.proofs.Thin as thin
+use Rattle.sound_parts.specs.Cross.{Crossed, codeOf}
+use Rattle.sound_parts.specs.Memory as S
+use Rattle.sound_parts.specs.Tests.{Fits, UsesIn, UsesOk, ValsIn, ValsOk, NestIn, NestOk}
 use Rattle.sound_parts.proofs.Slices.{checked-iff}
 use Rattle.sound_parts.proofs.Whole.{crossed-of, uses-of, vals-of, nest-of}
-use Rattle.table.proofs.Laws.{says-map}
-use Rattle.sound.specs.Lent.{part, tableAt, Caps, ArenasBy, FamiliesBy, Lay, Arenas, Families, memAt, SoundAt, ab, ar, av, au, xs, xu, xv, xr, xo, xb, xf, xt, xe, Zs, Good, Shut, BlanksBy, BlanksIn, Wide, Rises6, Rises7, lay, layoutOf, SoundBuffer}
-use Rattle.context.specs.Layout.{arena}
+use Rattle.sound.specs.Crossing.{tableIn, UsesCross, ValsCross, NestCross}
 
-pub part-length : (a e : ℕ) (m : List ℕ) → a ≤ e → e ≤ length m → length (part a e m) ≡ e - a
-part-length a e m h k = length-take-le (e - a) (drop a m) (omega (arith, length-drop a m))
+-- ---- the parts as they are lent
 
--- the table of an arena
-pub table-in : (n a e : ℕ) (m : List ℕ) → Packed n (part a e m) → a + (2 + n + n) ≤ e → Table n (tableAt a n m)
-table-in n a e m P h = let w : 2 + n + n ≡ a + (2 + n + n) - a = omega arith in subst (λ (t : List ℕ). Table n t) (take-take (2 + n + n) (e - a) (drop a m) (omega arith) ∙ ap (λ k. take k (drop a m)) w) (P .table)
+-- the words of an arena suffice for its table
+enough : (n : ℕ) → 2 + n + n ≤ arena n
+unfolding arena
+enough n = omega arith
 
-pub fits-of : (n : ℕ) (t : List ℕ) → Table n t → Fits n t
-fits-of n t T = (T .cap, T .size)
+pub small-total : {l : Layout} → Caps l → total l ≤ 300000
+unfolding arena
+small-total C = omega (arith, C .ops, C .blocks, C .regions, C .values, C .uses)
 
-caps-of : (l : Lay) (m : List ℕ) → Good l m → Caps (l .o) (l .b) (l .r) (l .v) (l .u)
-unfolding Shut
-caps-of l m G = G .caps
+module _ (l : Layout) (m : List ℕ) where
+  pub table-end : (k : Kind) (r : Span) → RoomOf l k r → r .at + (2 + r .nc + r .nc) ≤ total l
+  table-end k r R = omega (arith, R .fits, R .size, enough (r .nc))
 
-pub zs-of : (l : Lay) (m : List ℕ) → Good l m → Zs l
-unfolding Shut
-zs-of l m G = G .zs
+  pub table-seen : (k : Kind) (r : Span) → RoomOf l k r → take (r .at + (2 + r .nc + r .nc) - r .at) (drop (r .at) m) ≡ tableIn l m k
+  table-seen k r R =
+      let e : take (r .at + r .nn - r .at) (drop (r .at) m) ≡ part l m (kindPart k) = lent l (kindPart k) (r .at) (r .at + r .nn) m (omega (arith, kind-part< k)) (R .starts) (omega (arith, books.size-is l k, R .size, ap arena (R .capacity))) in
+      let w : 2 + r .nc + r .nc ≡ r .at + (2 + r .nc + r .nc) - r .at = omega arith in
+      sym (ap (λ (t : List ℕ). front (capOf l k) t) (sym e) ∙ ap (λ (n : ℕ). front n (take (r .at + r .nn - r .at) (drop (r .at) m))) (sym (R .capacity)) ∙ take-take (2 + r .nc + r .nc) (r .at + r .nn - r .at) (drop (r .at) m) (omega (arith, R .size, enough (r .nc))) ∙ ap (λ (n : ℕ). take n (drop (r .at) m)) w)
 
-pub good-of : (l : Lay) (m : List ℕ) → Caps (l .o) (l .b) (l .r) (l .v) (l .u) → Zs l → xe l ≤ length m → Good l m
-unfolding Shut
-good-of l m c z h = record { caps = c; zs = z; long = h }
+  pub family-seen : (f : Fam) (r : Span) → SpanOf l f r → take (r .at + 2 * r .nc + 3 * r .nn - r .at) (drop (r .at) m) ≡ part l m (famPart f)
+  family-seen f r R = lent l (famPart f) (r .at) (r .at + 2 * r .nc + 3 * r .nn) m (omega (arith, fam-part< f)) (R .starts) (omega (arith, thin.size-is l f, R .containers, R .nodes))
 
--- where the parts stand
-pub rises6 : (l : Lay) (m : List ℕ) → Good l m → Rises6 m (ab l) (ar l) (av l) (au l) (xs l)
-rises6 l m G = let g : xe l ≤ length m = G .long in record { a1 = omega arith; a2 = omega arith; a3 = omega arith; a4 = omega arith; a5 = omega arith; a6 = omega arith }
+  pub flags-seen : (t n : ℕ) → TagsAt l op t → n ≡ l .ops → take (t + n - t) (drop t m) ≡ part l m 12
+  flags-seen t n R e = lent l 12 t (t + n) m (omega arith) (R .starts) (omega (arith, e))
 
-pub rises7 : (l : Lay) (m : List ℕ) → Good l m → Rises7 m (xs l) (xu l) (xv l) (xr l) (xo l) (xb l) (xf l)
-rises7 l m G = let g : xe l ≤ length m = G .long in record { x1 = omega arith; x2 = omega arith; x3 = omega arith; x4 = omega arith; x5 = omega arith; x6 = omega arith; x7 = omega arith }
+-- ---- what the tests ask
 
--- where the cross tests' last parts end
-pub record Ends (l : Lay) (m : List ℕ) : Type 0 where
-  pub v≤ : xv l ≤ length m
-  pub r≤ : xr l ≤ length m
-  pub f≤ : xf l ≤ xt l
-  pub t≤ : xt l ≤ length m
-  pub e≥ : xt l ≤ xe l
+module _ {l : Layout} {m : List ℕ} (W : Well l m) where
+  fits : (k : Kind) → Fits (capOf l k) (tableIn l m k)
+  fits k = let t : T.Table (capOf l k) (tableIn l m k) = W .tables k .table in (t .cap, t .size)
 
-pub ends : (l : Lay) (m : List ℕ) → Good l m → Ends l m
-ends l m G = let g : xe l ≤ length m = G .long in record { v≤ = omega arith; r≤ = omega arith; f≤ = omega arith; t≤ = omega arith; e≥ = omega arith }
+  wide : (f : Fam) → Sizes (ncOf l f) (nnOf l f)
+  wide slots = record { containers = omega (arith, W .caps .ops); nodes = W .caps .uses }
+  wide useSets = record { containers = omega (arith, W .caps .values, W .caps .blocks); nodes = W .caps .uses }
+  wide vals = record { containers = omega (arith, W .caps .ops, W .caps .blocks); nodes = omega (arith, W .caps .values) }
+  wide regs = record { containers = omega (arith, W .caps .ops); nodes = omega (arith, W .caps .regions) }
+  wide opsIn = record { containers = omega (arith, W .caps .blocks); nodes = omega (arith, W .caps .ops) }
+  wide blocksIn = record { containers = omega (arith, W .caps .regions); nodes = omega (arith, W .caps .blocks) }
 
--- each arena's order and stamps end within the buffer
-pub record Rooms (l : Lay) (m : List ℕ) : Type 0 where
-  pub ro : 5 + (2 + l .o + l .o) ≤ length m
-  pub rb : ab l + (2 + l .b + l .b) ≤ length m
-  pub rr : ar l + (2 + l .r + l .r) ≤ length m
-  pub rv : av l + (2 + l .v + l .v) ≤ length m
-  pub ru : au l + (2 + l .u + l .u) ≤ length m
+  pub uses-in : UsesIn (l .ops) (l .blocks) (l .values) (l .uses) (tableIn l m op) (tableIn l m blk) (tableIn l m val) (tableIn l m usg) (part l m 6) (part l m 7)
+  uses-in = record { ops = fits op; blocks = fits blk; values = fits val; uses = fits usg; slots = (wide slots, W .families slots); sets = (wide useSets, W .families useSets) }
 
-room : (n z a e k : ℕ) → n ≤ z → a + z ≤ e → e ≤ k → a + n ≤ k
-room n z a e k h g f = omega arith
+  pub vals-in : ValsIn (l .ops) (l .blocks) (l .values) (tableIn l m op) (tableIn l m blk) (tableIn l m val) (part l m 8)
+  vals-in = record { ops = fits op; blocks = fits blk; values = fits val; vals = (wide vals, W .families vals) }
 
-pub rooms : (l : Lay) (m : List ℕ) → Good l m → Rooms l m
-rooms l m G = let R : Rises6 m (ab l) (ar l) (av l) (au l) (xs l) = rises6 l m G in
-    record {
-      ro = room (2 + l .o + l .o) (l .zo) 5 (ab l) (length m) (zs-of l m G .zo≥) (omega arith) (omega (arith, R));
-      rb = room (2 + l .b + l .b) (l .zb) (ab l) (ar l) (length m) (zs-of l m G .zb≥) (omega arith) (omega (arith, R));
-      rr = room (2 + l .r + l .r) (l .zr) (ar l) (av l) (length m) (zs-of l m G .zr≥) (omega arith) (omega (arith, R));
-      rv = room (2 + l .v + l .v) (l .zv) (av l) (au l) (length m) (zs-of l m G .zv≥) (omega arith) (omega (arith, R));
-      ru = room (2 + l .u + l .u) (l .zu) (au l) (xs l) (length m) (zs-of l m G .zu≥) (omega arith) (omega (arith, R));
-    }
+  flags-long : length (part l m 12) ≡ l .ops
+  flags-long =
+      ap length (sym (lent l 12 (start (sizes l) 12) (start (sizes l) 12 + l .ops) m (omega arith) refl refl))
+      ∙ length-part (start (sizes l) 12) (start (sizes l) 12 + l .ops) m (omega (arith, W .fits)) ∙ omega arith
 
--- a part of the right length
-pub long-part : (a e n : ℕ) (m : List ℕ) → e ≡ a + n → e ≤ length m → length (part a e m) ≡ n
-long-part a e n m h k = part-length a e m (omega arith) k ∙ omega arith
+  pub nest-in : NestIn (l .ops) (l .blocks) (l .regions) (tableIn l m op) (tableIn l m blk) (tableIn l m reg) (part l m 10) (part l m 11) (part l m 9) (part l m 12)
+  nest-in = record { ops = fits op; blocks = fits blk; regions = fits reg; nest = record { caps = (W .caps .ops, (W .caps .blocks, W .caps .regions)); ops = W .families opsIn; blocks = W .families blocksIn; regions = W .families regs }; flags = flags-long }
 
-sizes : (x y : ℕ) → x ≤ 24576 → y ≤ 16384 → Sizes x y
-sizes x y h k = record { containers = h; nodes = k }
+-- ---- what they find
 
-pub wide-of : (l : Lay) (m : List ℕ) → Good l m → Wide m (l .o) (l .b) (l .r) (l .v) (l .u) (xs l) (xu l) (xv l) (xr l) (xo l) (xb l) (xf l)
-wide-of l m G = let R : Rises7 m (xs l) (xu l) (xv l) (xr l) (xo l) (xb l) (xf l) = rises7 l m G in let K : Caps (l .o) (l .b) (l .r) (l .v) (l .u) = caps-of l m G in
-    record {
-      n1 = (two-size (l .o) (l .u) (K .o≤) (K .u≤), long-part (xs l) (xu l) (2 * (2 * l .o) + 3 * l .u) m refl (chain (R .x2) (chain (R .x3) (chain (R .x4) (chain (R .x5) (chain (R .x6) (R .x7)))))));
-      n2 = (sum-size (l .v) (l .b) (l .u) (K .v≤) (K .b≤) (K .u≤), long-part (xu l) (xv l) (2 * (l .v + l .b) + 3 * l .u) m refl (chain (R .x3) (chain (R .x4) (chain (R .x5) (chain (R .x6) (R .x7))))));
-      n3 = (sum-size (l .o) (l .b) (l .v) (up-to (l .o) 4096 8192 (K .o≤) (omega arith)) (K .b≤) (up-to (l .v) 8192 16384 (K .v≤) (omega arith)), long-part (xv l) (xr l) (2 * (l .o + l .b) + 3 * l .v) m refl (chain (R .x4) (chain (R .x5) (chain (R .x6) (R .x7)))));
-      n4 = (sizes (l .o) (l .r) (up-to (l .o) 4096 24576 (K .o≤) (omega arith)) (up-to (l .r) 1024 16384 (K .r≤) (omega arith)), long-part (xr l) (xo l) (2 * l .o + 3 * l .r) m refl (chain (R .x5) (chain (R .x6) (R .x7))));
-      n5 = (sizes (l .b) (l .o) (up-to (l .b) 1024 24576 (K .b≤) (omega arith)) (up-to (l .o) 4096 16384 (K .o≤) (omega arith)), long-part (xo l) (xb l) (2 * l .b + 3 * l .o) m refl (chain (R .x6) (R .x7)));
-      n6 = (sizes (l .r) (l .b) (up-to (l .r) 1024 24576 (K .r≤) (omega arith)) (up-to (l .b) 1024 16384 (K .b≤) (omega arith)), long-part (xb l) (xf l) (2 * l .r + 3 * l .b) m refl (R .x7));
-    }
-  where
-    chain : {x y z : ℕ} → x ≤ y → y ≤ z → x ≤ z
-    chain h k = omega arith
+code-same : (n : ℕ) → codeOf n ≡ decode n
+code-same zero = refl
+code-same (suc n) = refl
 
-    up-to : (x y z : ℕ) → x ≤ y → y ≤ z → x ≤ z
-    up-to x y z h k = omega arith
+module _ (l : Layout) (m : List ℕ) where
+  abbrev M : S.Mem
+  M = S.memOf (l .ops) (l .blocks) (l .regions) (l .values) (l .uses) (tableIn l m op) (tableIn l m blk) (tableIn l m reg) (tableIn l m val) (tableIn l m usg) (part l m 6) (part l m 7) (part l m 8) (part l m 9) (part l m 10) (part l m 11) (part l m 12) (part l m 13)
 
-    two-size : (o u : ℕ) → o ≤ 4096 → u ≤ 16384 → Sizes (2 * o) u
-    two-size o u h k = sizes (2 * o) u (omega arith) k
+  abbrev ps : List (List ℕ)
+  ps = split (sizes l) m
 
-    sum-size : (v b u : ℕ) → v ≤ 8192 → b ≤ 1024 → u ≤ 16384 → Sizes (v + b) u
-    sum-size v b u h g k = sizes (v + b) u (omega arith) k
+  books-are : (k : Kind) → S.partsOf M .books k ≡ partsOf l ps .books k
+  unfolding S.partsOf partsOf
+  books-are op = refl
+  books-are blk = refl
+  books-are reg = refl
+  books-are val = refl
+  books-are usg = refl
 
-module _ (l : Lay) (m : List ℕ) (W : Good l m) (A : Arenas l m) (F : Families l m) where
-  pub to-table : Table (l .o) (tableAt 5 (l .o) m)
-  to-table = let z = zs-of l m W .zo≥ in table-in (l .o) 5 (ab l) m (A .ops) (omega (arith, z))
+  rows-are : (f : Fam) → S.partsOf M .rows f ≡ partsOf l ps .rows f
+  unfolding S.partsOf partsOf
+  rows-are slots = refl
+  rows-are useSets = refl
+  rows-are vals = refl
+  rows-are regs = refl
+  rows-are opsIn = refl
+  rows-are blocksIn = refl
 
-  pub tb-table : Table (l .b) (tableAt (ab l) (l .b) m)
-  tb-table = let z = zs-of l m W .zb≥ in table-in (l .b) (ab l) (ar l) m (A .blocks) (omega (arith, z))
+  homes-are : (f : Fam) (q : ℕ) → S.partsOf M .homes f q ≡ partsOf l ps .homes f q
+  unfolding S.partsOf partsOf
+  homes-are slots q = code-same (getD (part l m 6) (home (ncOf l slots) (nnOf l slots) q) 0)
+  homes-are useSets q = code-same (getD (part l m 7) (home (ncOf l useSets) (nnOf l useSets) q) 0)
+  homes-are vals q = code-same (getD (part l m 8) (home (ncOf l vals) (nnOf l vals) q) 0)
+  homes-are regs q = code-same (getD (part l m 9) (home (ncOf l regs) (nnOf l regs) q) 0)
+  homes-are opsIn q = code-same (getD (part l m 10) (home (ncOf l opsIn) (nnOf l opsIn) q) 0)
+  homes-are blocksIn q = code-same (getD (part l m 11) (home (ncOf l blocksIn) (nnOf l blocksIn) q) 0)
 
-  pub tr-table : Table (l .r) (tableAt (ar l) (l .r) m)
-  tr-table = let z = zs-of l m W .zr≥ in table-in (l .r) (ar l) (av l) m (A .regions) (omega (arith, z))
+  tags-are : (k : Kind) (p : ℕ) → S.partsOf M .tags (k, p) ≡ partsOf l ps .tags (k, p)
+  unfolding S.partsOf partsOf
+  tags-are op p = refl
+  tags-are blk p = refl
+  tags-are reg p = refl
+  tags-are val p = refl
+  tags-are usg p = refl
 
-  pub tv-table : Table (l .v) (tableAt (av l) (l .v) m)
-  tv-table = let z = zs-of l m W .zv≥ in table-in (l .v) (av l) (au l) m (A .values) (omega (arith, z))
+  parts-are : S.partsOf M ≡ partsOf l ps
+  parts-are i = record { books = λ k. books-are k i; rows = λ f. rows-are f i; homes = λ f q. homes-are f q i; tags = λ a. tags-are (a .0) (a .1) i }
 
-  pub tu-table : Table (l .u) (tableAt (au l) (l .u) m)
-  tu-table = let z = zs-of l m W .zu≥ in table-in (l .u) (au l) (xs l) m (A .uses) (omega (arith, z))
+  module _ (W : Well l m) where
+    formed : S.Formed M
+    formed = record { tables = tables; links = links }
+      where
+        tables : (k : Kind) → T.Table (M .cap k) (M .table k)
+        tables op = W .tables op .table
+        tables blk = W .tables blk .table
+        tables reg = W .tables reg .table
+        tables val = W .tables val .table
+        tables usg = W .tables usg .table
 
-  formed : Formed (memAt l m)
-  formed = record { tables = tables; links = links }
-    where
-      tables : (k : Kind) → Table (memAt l m .cap k) (memAt l m .table k)
-      tables op = to-table
-      tables blk = tb-table
-      tables reg = tr-table
-      tables val = tv-table
-      tables usg = tu-table
+        links : (f : Fam) → Linked (S.nc (M .cap) f) (S.nn (M .cap) f) (M .family f)
+        links slots = W .families slots
+        links useSets = W .families useSets
+        links vals = W .families vals
+        links regs = W .families regs
+        links opsIn = W .families opsIn
+        links blocksIn = W .families blocksIn
 
-      links : (f : Fam) → Linked (nc (memAt l m .cap) f) (nn (memAt l m .cap) f) (memAt l m .family f)
-      links slots = F .slots
-      links useSets = F .sets
-      links vals = F .vals
-      links regs = F .regs
-      links opsIn = F .ops
-      links blocksIn = F .blocks
+    pub sound-of : UsesCross l m → ValsCross l m → NestCross l m → Sound (stateOf l m)
+    sound-of u v n =
+        subst (λ (X : Parts). Sound (store (rowsOf (l .values) (l .ops)) X)) parts-are
+        (checked-iff M .0 (record { formed = formed; crossed = crossed-of (l .ops) (l .blocks) (l .regions) (l .values) (l .uses) (tableIn l m op) (tableIn l m blk) (tableIn l m reg) (tableIn l m val) (tableIn l m usg) (part l m 6) (part l m 7) (part l m 8) (part l m 9) (part l m 10) (part l m 11) (part l m 12) (part l m 13) formed u v n }) .sound)
 
-  abbrev pub t-o : List ℕ
-  t-o = tableAt 5 (l .o) m
+    module _ (Z : Sound (stateOf l m)) where
+      crossed : Crossed (S.cellsOf M)
+      crossed = checked-iff M .1 (record { formed = formed; sound = subst (λ (X : Parts). Sound (store (rowsOf (l .values) (l .ops)) X)) (sym parts-are) Z }) .crossed
 
-  abbrev pub t-b : List ℕ
-  t-b = tableAt (ab l) (l .b) m
+      pub sound-uses : UsesCross l m
+      sound-uses = uses-of (l .ops) (l .blocks) (l .regions) (l .values) (l .uses) (tableIn l m op) (tableIn l m blk) (tableIn l m reg) (tableIn l m val) (tableIn l m usg) (part l m 6) (part l m 7) (part l m 8) (part l m 9) (part l m 10) (part l m 11) (part l m 12) (part l m 13) formed crossed
 
-  abbrev pub t-r : List ℕ
-  t-r = tableAt (ar l) (l .r) m
+      pub sound-vals : ValsCross l m
+      sound-vals = vals-of (l .ops) (l .blocks) (l .regions) (l .values) (l .uses) (tableIn l m op) (tableIn l m blk) (tableIn l m reg) (tableIn l m val) (tableIn l m usg) (part l m 6) (part l m 7) (part l m 8) (part l m 9) (part l m 10) (part l m 11) (part l m 12) (part l m 13) formed crossed
 
-  abbrev pub t-v : List ℕ
-  t-v = tableAt (av l) (l .v) m
+      pub sound-nest : NestCross l m
+      sound-nest = nest-of (l .ops) (l .blocks) (l .regions) (l .values) (l .uses) (tableIn l m op) (tableIn l m blk) (tableIn l m reg) (tableIn l m val) (tableIn l m usg) (part l m 6) (part l m 7) (part l m 8) (part l m 9) (part l m 10) (part l m 11) (part l m 12) (part l m 13) formed crossed
 
-  abbrev pub t-u : List ℕ
-  t-u = tableAt (au l) (l .u) m
-
-  abbrev pub UsesHere : Type 0
-  UsesHere = UsesOk (l .o) (l .b) (l .v) (l .u) t-o t-b t-v t-u (part (xs l) (xu l) m) (part (xu l) (xv l) m)
-
-  abbrev pub ValsHere : Type 0
-  ValsHere = ValsOk (l .o) (l .b) (l .v) t-o t-b t-v (part (xv l) (xr l) m)
-
-  abbrev pub NestHere : Type 0
-  NestHere = NestOk (l .o) (l .b) (l .r) t-o t-b t-r (part (xo l) (xb l) m) (part (xb l) (xf l) m) (part (xr l) (xo l) m) (part (xf l) (xt l) m)
-
-  abbrev X : Wide m (l .o) (l .b) (l .r) (l .v) (l .u) (xs l) (xu l) (xv l) (xr l) (xo l) (xb l) (xf l)
-  X = wide-of l m W
-
-  pub uses-in : UsesIn (l .o) (l .b) (l .v) (l .u) t-o t-b t-v t-u (part (xs l) (xu l) m) (part (xu l) (xv l) m)
-  uses-in = record { ops = fits-of (l .o) t-o to-table; blocks = fits-of (l .b) t-b tb-table; values = fits-of (l .v) t-v tv-table; uses = fits-of (l .u) t-u tu-table; slots = (X .n1 .0, F .slots); sets = (X .n2 .0, F .sets) }
-
-  pub vals-in : ValsIn (l .o) (l .b) (l .v) t-o t-b t-v (part (xv l) (xr l) m)
-  vals-in = record { ops = fits-of (l .o) t-o to-table; blocks = fits-of (l .b) t-b tb-table; values = fits-of (l .v) t-v tv-table; vals = (X .n3 .0, F .vals) }
-
-  pub nest-in : NestIn (l .o) (l .b) (l .r) t-o t-b t-r (part (xo l) (xb l) m) (part (xb l) (xf l) m) (part (xr l) (xo l) m) (part (xf l) (xt l) m)
-  nest-in =
-      record {
-        ops = fits-of (l .o) t-o to-table;
-        blocks = fits-of (l .b) t-b tb-table;
-        regions = fits-of (l .r) t-r tr-table;
-        nest = record { caps = (caps-of l m W .o≤, (caps-of l m W .b≤, caps-of l m W .r≤)); ops = F .ops; blocks = F .blocks; regions = F .regs };
-        flags = let g : xe l ≤ length m = W .long in long-part (xf l) (xt l) (l .o) m refl (omega arith);
-      }
-
-  abbrev pub BlanksHere : Type 0
-  BlanksHere = BlanksBy (l .o) (l .v) (av l) (xf l) (xt l) (xe l) m
-
-  pub blanks-in : BlanksIn (l .o) (l .v) (av l) (xf l) (xt l) (xe l) m
-  blanks-in = let g : xe l ≤ length m = W .long in
-      record { ops = (fits-of (l .o) t-o to-table, long-part (xf l) (xt l) (l .o) m refl (omega arith)); values = (fits-of (l .v) t-v tv-table, long-part (xt l) (xe l) (l .v) m refl g) }
-
-  pub sound-of : UsesHere → ValsHere → NestHere → BlanksHere → SoundAt l m
-  sound-of u g n k = record { arenas = A; families = F; blanks = k; sound = checked-iff (memAt l m) .0 (record { formed = formed; crossed = crossed-of (l .o) (l .b) (l .r) (l .v) (l .u) t-o t-b t-r t-v t-u (part (xs l) (xu l) m) (part (xu l) (xv l) m) (part (xv l) (xr l) m) (part (xr l) (xo l) m) (part (xo l) (xb l) m) (part (xb l) (xf l) m) (part (xf l) (xt l) m) (part (xt l) (xe l) m) formed u g n }) .sound }
-
-  crossed : SoundAt l m → Crossed (cellsOf (memAt l m))
-  crossed S = checked-iff (memAt l m) .1 (record { formed = formed; sound = S .sound }) .crossed
-
-  pub sound-uses : SoundAt l m → UsesHere
-  sound-uses S = uses-of (l .o) (l .b) (l .r) (l .v) (l .u) t-o t-b t-r t-v t-u (part (xs l) (xu l) m) (part (xu l) (xv l) m) (part (xv l) (xr l) m) (part (xr l) (xo l) m) (part (xo l) (xb l) m) (part (xb l) (xf l) m) (part (xf l) (xt l) m) (part (xt l) (xe l) m) formed (crossed S)
-
-  pub sound-vals : SoundAt l m → ValsHere
-  sound-vals S = vals-of (l .o) (l .b) (l .r) (l .v) (l .u) t-o t-b t-r t-v t-u (part (xs l) (xu l) m) (part (xu l) (xv l) m) (part (xv l) (xr l) m) (part (xr l) (xo l) m) (part (xo l) (xb l) m) (part (xb l) (xf l) m) (part (xf l) (xt l) m) (part (xt l) (xe l) m) formed (crossed S)
-
-  pub sound-nest : SoundAt l m → NestHere
-  sound-nest S = nest-of (l .o) (l .b) (l .r) (l .v) (l .u) t-o t-b t-r t-v t-u (part (xs l) (xu l) m) (part (xu l) (xv l) m) (part (xv l) (xr l) m) (part (xr l) (xo l) m) (part (xo l) (xb l) m) (part (xb l) (xf l) m) (part (xf l) (xt l) m) (part (xt l) (xe l) m) formed (crossed S)
+    -- all three found: the last decides
+    pub last-says : (k : Bool) → UsesCross l m → ValsCross l m → Says k (NestCross l m) → Says k (Sound (stateOf l m))
+    last-says k u v = says-map k (sound-of u v) sound-nest
 
 -- ---- the header
 
-module _ (m : List ℕ) (o b r v u zo zb zr zv zu : ℕ)
-    (eo : o ≡ getD m 0 0) (eb : b ≡ getD m 1 0) (er : r ≡ getD m 2 0) (ev : v ≡ getD m 3 0) (eu : u ≡ getD m 4 0)
-    (fo : zo ≡ arena o) (fb : zb ≡ arena b) (fr : zr ≡ arena r) (fv : zv ≡ arena v) (fu : zu ≡ arena u) where
-  pub lay-is : lay o b r v u zo zb zr zv zu ≡ layoutOf m
-  lay-is = λ i. lay (eo i) (eb i) (er i) (ev i) (eu i) ((fo ∙ ap (λ n. arena n) eo) i) ((fb ∙ ap (λ n. arena n) eb) i) ((fr ∙ ap (λ n. arena n) er) i) ((fv ∙ ap (λ n. arena n) ev) i) ((fu ∙ ap (λ n. arena n) eu) i)
+pub store-says : {l : Layout} {m : List ℕ} (k : Bool) → l ≡ layoutOf m → Well l m → Says k (Sound (stateOf l m)) → Says k (SoundStore (layoutOf m) m)
+store-says {l} {m} k e W h = subst (λ (y : Layout). Says k (SoundStore y m)) e (says-map k (λ S. record { well = W; sound = S }) (λ S. S .sound) h)
 
-  pub caps-is : Caps o b r v u ≡ Caps (getD m 0 0) (getD m 1 0) (getD m 2 0) (getD m 3 0) (getD m 4 0)
-  caps-is = λ i. Caps (eo i) (eb i) (er i) (ev i) (eu i)
+pub parts-say : {l : Layout} {m : List ℕ} → l ≡ layoutOf m → (Well l m → ⊥) → SoundStore (layoutOf m) m → ⊥
+parts-say {l} {m} e h S = h (subst (λ (y : Layout). Well y m) (sym e) (S .well))
 
-  pub no-caps : (Caps o b r v u → ⊥) → SoundBuffer m → ⊥
-  no-caps h S = h (subst (λ (t : Type 0). t) (sym caps-is) (S .caps))
+-- ---- the tests, with the parts as the code lends them
 
-  pub no-room : length m < xe (lay o b r v u zo zb zr zv zu) → SoundBuffer m → ⊥
-  no-room h S = let e : xe (lay o b r v u zo zb zr zv zu) ≡ xe (layoutOf m) = ap (λ (l : Lay). xe l) lay-is in less (length m) (xe (lay o b r v u zo zb zr zv zu)) (xe (layoutOf m)) h e (S .long)
-    where
-      less : (a c d : ℕ) → a < c → c ≡ d → d ≤ a → ⊥
-      less a c d h e k = omega arith
+module _ {l : Layout} {m : List ℕ} (W : Well l m) (o b : Span) (O : RoomOf l op o) (B : RoomOf l blk b) where
+  abbrev table : Span → List ℕ
+  table r = take (r .at + (2 + r .nc + r .nc) - r .at) (drop (r .at) m)
 
-  pub store-says : (k : Bool) → 5 ≤ length m → Caps o b r v u → xe (lay o b r v u zo zb zr zv zu) ≤ length m → Says k (SoundAt (lay o b r v u zo zb zr zv zu) m) → Says k (SoundBuffer m)
-  store-says k h c x s =
-      says-map k
-      (λ S. record { header = h; caps = subst (λ (t : Type 0). t) caps-is c; long = subst (λ (l : Lay). xe l ≤ length m) lay-is x; sound = subst (λ (l : Lay). SoundAt l m) lay-is S })
-      (λ S. subst (λ (l : Lay). SoundAt l m) (sym lay-is) (S .sound)) s
+  abbrev family : Span → List ℕ
+  family r = take (r .at + 2 * r .nc + 3 * r .nn - r .at) (drop (r .at) m)
+
+  module _ (v u s d : Span) (X : RoomOf l val v) (U : RoomOf l usg u) (T : SpanOf l slots s) (D : SpanOf l useSets d) where
+    pub uses-asked : UsesIn (o .nc) (b .nc) (v .nc) (u .nc) (table o) (table b) (table v) (table u) (family s) (family d)
+    uses-asked = subst (λ (A : Type 0). A) (λ i. UsesIn (sym (O .capacity) i) (sym (B .capacity) i) (sym (X .capacity) i) (sym (U .capacity) i) (sym (table-seen l m op o O) i) (sym (table-seen l m blk b B) i) (sym (table-seen l m val v X) i) (sym (table-seen l m usg u U) i) (sym (family-seen l m slots s T) i) (sym (family-seen l m useSets d D) i)) (uses-in W)
+
+    pub uses-say : (k : Bool) → Says k (UsesOk (o .nc) (b .nc) (v .nc) (u .nc) (table o) (table b) (table v) (table u) (family s) (family d)) → Says k (UsesCross l m)
+    uses-say k h = subst (λ (A : Type 0). Says k A) (λ i. UsesOk (O .capacity i) (B .capacity i) (X .capacity i) (U .capacity i) (table-seen l m op o O i) (table-seen l m blk b B i) (table-seen l m val v X i) (table-seen l m usg u U i) (family-seen l m slots s T i) (family-seen l m useSets d D i)) h
+
+  module _ (v f : Span) (X : RoomOf l val v) (F : SpanOf l vals f) where
+    pub vals-asked : ValsIn (o .nc) (b .nc) (v .nc) (table o) (table b) (table v) (family f)
+    vals-asked = subst (λ (A : Type 0). A) (λ i. ValsIn (sym (O .capacity) i) (sym (B .capacity) i) (sym (X .capacity) i) (sym (table-seen l m op o O) i) (sym (table-seen l m blk b B) i) (sym (table-seen l m val v X) i) (sym (family-seen l m vals f F) i)) (vals-in W)
+
+    pub vals-say : (k : Bool) → Says k (ValsOk (o .nc) (b .nc) (v .nc) (table o) (table b) (table v) (family f)) → Says k (ValsCross l m)
+    vals-say k h = subst (λ (A : Type 0). Says k A) (λ i. ValsOk (O .capacity i) (B .capacity i) (X .capacity i) (table-seen l m op o O i) (table-seen l m blk b B i) (table-seen l m val v X i) (family-seen l m vals f F i)) h
+
+  module _ (r f g h : Span) (t : ℕ) (R : RoomOf l reg r) (F : SpanOf l regs f) (G : SpanOf l opsIn g) (H : SpanOf l blocksIn h) (T : TagsAt l op t) where
+    pub nest-asked : NestIn (o .nc) (b .nc) (r .nc) (table o) (table b) (table r) (family g) (family h) (family f) (take (t + o .nc - t) (drop t m))
+    nest-asked = subst (λ (A : Type 0). A) (λ i. NestIn (sym (O .capacity) i) (sym (B .capacity) i) (sym (R .capacity) i) (sym (table-seen l m op o O) i) (sym (table-seen l m blk b B) i) (sym (table-seen l m reg r R) i) (sym (family-seen l m opsIn g G) i) (sym (family-seen l m blocksIn h H) i) (sym (family-seen l m regs f F) i) (sym (flags-seen l m t (o .nc) T (O .capacity)) i)) (nest-in W)
+
+    pub nest-say : (k : Bool) → Says k (NestOk (o .nc) (b .nc) (r .nc) (table o) (table b) (table r) (family g) (family h) (family f) (take (t + o .nc - t) (drop t m))) → Says k (NestCross l m)
+    nest-say k s = subst (λ (A : Type 0). Says k A) (λ i. NestOk (O .capacity i) (B .capacity i) (R .capacity i) (table-seen l m op o O i) (table-seen l m blk b B i) (table-seen l m reg r R i) (family-seen l m opsIn g G i) (family-seen l m blocksIn h H i) (family-seen l m regs f F i) (flags-seen l m t (o .nc) T (O .capacity) i)) s

@@ -116,11 +116,3 @@ pub record NestOk (o b r : ℕ) (to tb tr so sb sr fl : List ℕ) : Type 0 where
   pub blocks : Direct r b sb tb tr
   pub flags : Flags o to fl
   pub climbs : Climbs o b r to so sb sr (count to)
-
--- ---- the cells of free places are 0
-
-abbrev pub BlankAt : ℕ → List ℕ → List ℕ → ℕ → Type 0
-BlankAt n t s p = stamp n t p ≡ 0 → getD s p 0 ≡ 0
-
-abbrev pub Blank : ℕ → List ℕ → List ℕ → Type 0
-Blank n t s = (p : ℕ) → p < n → BlankAt n t s p

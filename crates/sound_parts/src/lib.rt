@@ -5,7 +5,7 @@ ghost use Prim.Native.Nat.{ℕ, suc, _+_, _-_, _*_, _/_, _%_, _≤_, _<_};
 ghost use lib.ListN.{length, getD};
 ghost use Rattle.table.specs.Table.{Says, stamp};
 ghost use Rattle.linked_list.specs.Links.{Sizes, Linked, home};
-ghost use Rattle.sound_parts.specs.Tests.{Fits, DirectAt, Direct, ForkAt, Fork, MustAt, Must, Short, FlagAt, Flags, UseAt, Slots, climb, ClimbAt, Climbs, Nest, row, UsesIn, UsesOk, ValsIn, ValsOk, NestIn, NestOk, BlankAt, Blank};
+ghost use Rattle.sound_parts.specs.Tests.{Fits, DirectAt, Direct, ForkAt, Fork, MustAt, Must, Short, FlagAt, Flags, UseAt, Slots, climb, ClimbAt, Climbs, Nest, row, UsesIn, UsesOk, ValsIn, ValsOk, NestIn, NestOk};
 
 fn wide(x: u32) -> usize
     ensures { λ r. ⌜ r ≡ x ⌝ }
@@ -483,37 +483,6 @@ pub fn check_nest(
     let x7 = check_climbs(to, ops, blocks, regions, o, b, r, n);
     if !x7 {
         return false;
-    }
-    true
-}
-
-// Whether a free place's cell is 0.
-fn blank_at(t: &[u32], n: usize, s: &[u32], p: usize) -> bool
-    requires { ⌜ Fits n (now t) × (length (now s) ≡ n) ⌝ }
-    requires { ⌜ p < n ⌝ }
-    ensures { λ r. ⌜ Says r (BlankAt n (now (t .entry)) (now (s .entry)) p) ⌝ }
-{
-    let a = stamp_at(t, n, p);
-    if a != 0 {
-        return true;
-    }
-    if s[p] != 0 {
-        return false;
-    }
-    true
-}
-
-pub fn check_blank(t: &[u32], n: usize, s: &[u32]) -> bool
-    requires { ⌜ Fits n (now t) × (length (now s) ≡ n) ⌝ }
-    ensures { λ r. ⌜ Says r (Blank n (now (t .entry)) (now (s .entry))) ⌝ }
-{
-    let mut p = 0;
-    while p < n {
-        let k = blank_at(t, n, s, p);
-        if !k {
-            return false;
-        }
-        p += 1;
     }
     true
 }

@@ -60,8 +60,8 @@ pub fn lowest_free(b: &[u32], n: usize) -> Found
     let mut k = skip_full(b);
     while k < b.len() {
         let w = word(b, k);
-        let j = ones(w);
-        if j < 64 {
+        if w != 18446744073709551615 {
+            let j = ones(w);
             let p = 32 * k + (j as usize);
             if p < n {
                 return Found::At(p);

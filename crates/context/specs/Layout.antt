@@ -105,10 +105,14 @@ pub record Caps (l : Layout) : Type 0 where
   pub some-values : 0 < l .values
   pub some-uses : 0 < l .uses
 
--- r is the size of a table; where the families start
+-- r is the size of a table; half of it; where the families start
 pub record ArenaSize (n r : ℕ) : Type 0 where
   pub is : r ≡ arena n
   pub small : r ≤ 40000
+
+pub record HalfSize (n r : ℕ) : Type 0 where
+  pub is : 2 * r ≡ arena n
+  pub small : r ≤ 20000
 
 pub record FamiliesAt (l : Layout) (r : ℕ) : Type 0 where
   pub is : r ≡ start (sizes l) 6

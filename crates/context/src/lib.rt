@@ -11,7 +11,7 @@ ghost use mathlib.Core.Path.{_≡_};
 ghost use Prim.Native.Nat.{_≤_, _<_};
 ghost use lib.ListN.{length, getD, set};
 ghost use Rattle.places.specs.Store.{Live, op, val};
-ghost use Rattle.context.specs.Layout.{capOf, ncOf, nnOf, total, famOf, kindOf, Caps, ArenaSize, FamiliesAt, SpanOf, RoomOf, TagsAt, TotalIs, HasTag};
+ghost use Rattle.context.specs.Layout.{capOf, ncOf, nnOf, total, famOf, kindOf, Caps, ArenaSize, HalfSize, FamiliesAt, SpanOf, RoomOf, TagsAt, TotalIs, HasTag};
 ghost use Rattle.context.specs.Memory.{con, stateOf, Well, RoomFor, Borne, Finished, Finds, HomeIs, LengthIs, RoomIs, FirstIs};
 ghost use Rattle.context.specs.Reading.{listOf, NextIs, PrevIs, LastIs, NthIs, NumberIs, LiveIs, NextNumberIs, NthLiveIs};
 ghost use Rattle.context.specs.Steps.{Zeroed, Started};
@@ -45,6 +45,14 @@ fn arena_size(n: usize) -> usize
     2 + n + n + (n + 63) / 64 * 2
 }
 
+// Half of them: the starts of parts are sums of sizes, which are all even, and sums of halves are less work.
+fn half_size(n: usize) -> usize
+    requires { ⌜ n ≤ 16384 ⌝ }
+    ensures { λ r. ⌜ HalfSize n r ⌝ }
+{
+    1 + n + (n + 63) / 64
+}
+
 // The part that starts at `at`.
 fn part_at(at: usize, nc: usize, nn: usize) -> Span
     ensures { λ r. ⌜ (r .at ≡ at) × ((r .nc ≡ nc) × (r .nn ≡ nn)) ⌝ }
@@ -64,33 +72,33 @@ pub fn table_span(l: Layout, k: usize) -> Span
     if k == 0 {
         return part_at(5, l.ops, arena_size(l.ops));
     }
-    let a = 5 + arena_size(l.ops);
+    let a = half_size(l.ops);
     if k == 1 {
-        return part_at(a, l.blocks, arena_size(l.blocks));
+        return part_at(5 + 2 * a, l.blocks, arena_size(l.blocks));
     }
-    let b = a + arena_size(l.blocks);
+    let b = a + half_size(l.blocks);
     if k == 2 {
-        return part_at(b, l.regions, arena_size(l.regions));
+        return part_at(5 + 2 * b, l.regions, arena_size(l.regions));
     }
-    let c = b + arena_size(l.regions);
+    let c = b + half_size(l.regions);
     if k == 3 {
-        return part_at(c, l.values, arena_size(l.values));
+        return part_at(5 + 2 * c, l.values, arena_size(l.values));
     }
-    part_at(c + arena_size(l.values), l.uses, arena_size(l.uses))
+    let d = c + half_size(l.values);
+    part_at(5 + 2 * d, l.uses, arena_size(l.uses))
 }
 
-// Where the families start: past the header and the five tables, with the words of their occupancy maps summed first, which is less work.
+// Where the families start: past the header and the five tables.
 fn families_at(l: Layout) -> usize
     requires { ⌜ Caps l ⌝ }
     ensures { λ r. ⌜ FamiliesAt l r ⌝ }
 {
-    let n = l.ops + l.blocks + l.regions + l.values + l.uses;
-    let w = (l.ops + 63) / 64
-        + (l.blocks + 63) / 64
-        + (l.regions + 63) / 64
-        + (l.values + 63) / 64
-        + (l.uses + 63) / 64;
-    15 + 2 * (n + w)
+    let a = half_size(l.ops);
+    let b = half_size(l.blocks);
+    let r = half_size(l.regions);
+    let v = half_size(l.values);
+    let u = half_size(l.uses);
+    5 + 2 * (a + b + r + v + u)
 }
 
 // Where a family stands: slots, use sets, values, regions, operations in blocks, blocks in regions.

@@ -1,13 +1,11 @@
 -- An end. Assumes nothing.
-use mathlib.Core.Path.{_≡_, refl, sym, ap, _∙_, subst}
-use mathlib.Core.List.{List}
-use Prim.Native.Nat.{ℕ, _+_, _-_, _≤_, _<_}
+use mathlib.Core.Path.{_≡_}
+use Prim.Native.Nat.{_-_, _<_}
 use native.Mathlib.Omega.{arith}
 use borrow.Author.Needs.{needs}
-use lib.ListN.{length, getD, set}
-use Rattle.table.specs.Table.{Ended, stamp, count, order, next}
+use Rattle.table.specs.Table.{count, order}
 use Rattle.table.proofs.Laws.{at-rank, ordered}
-use Rattle.table.proofs.Cells.{shifted-is, ended}
+use Rattle.table.proofs.Cells.{shifted-by, ended}
 use Rattle.table.proofs.end.Statement.{statement}
 use Rattle.table.proofs.end.Tie as tie
 use Rattle.table.proofs.end.Reads as reads
@@ -70,10 +68,8 @@ returns : tie.Need-returns
 returns c =
     let g = c .before .before .before .before .before .before .before .before .before .before .before .before .before .before .before .before in
     let s = g .before .before .before .before .before .before .before in
-    let L : g .get2 .result ≡ count (s .args .t .now) = g .get2 .ensures in
-    let e : c .before .before .put3 .last .0 ≡ set (set (set (c .before .before .before .before .before .before .before .before .before .before .before .before .before .before .shift .last .0) (1 + count (s .args .t .now)) 0) (2 + s .args .n + s .args .p) 0) 1 (count (s .args .t .now) - 1) = cc in
-    subst (λ (x : List ℕ). Ended (s .args .n) (s .args .t .now) x (s .args .p)) (sym e)
-    (ended _ _ _ _ _ (s .pre .0) (shifted-is _ _ _ _ _ (s .pre .0 .size) (s .pre .0 .few) (s .pre .1 .0) (at g .0) (rw L at (c .before .before .before .before .before .before .before .before .before .before .before .before .before .before .shift .ensures))) (s .pre .1 .0) (at g .0) (at g .1))
+    let E = shifted-by (s .args .n) (s .args .t .now) (c .before .before .before .before .before .before .before .before .before .before .before .before .before .before .shift .last .0) _ (s .args .p) (g .get2 .ensures) (c .before .before .before .before .before .before .before .before .before .before .before .before .before .before .shift .ensures) (c .before .before .before .before .before .before .before .before .before .before .put .ensures) (c .before .before .before .before .before .before .put2 .ensures) (c .before .before .put3 .ensures) (s .pre .0 .size) (s .pre .0 .few) (s .pre .1 .0) (at g .0) in
+    ended _ _ _ _ _ (s .pre .0) E (s .pre .1 .0) (at g .0) (at g .1)
 
 pub end-spec : {M : Type 1} → statement M
 end-spec =

@@ -5,3 +5,4 @@ pub mod Facts
 pub mod Canon
 pub mod Quick
 pub mod Live
+pub mod Shifts

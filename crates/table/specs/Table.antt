@@ -114,6 +114,12 @@ pub record Ended (n : ℕ) (t t′ : List ℕ) (p : ℕ) : Type 0 where
   pub here : stamp n t′ p ≡ 0
   pub others : (q : ℕ) → q < n → (q ≡ p → ⊥) → stamp n t′ q ≡ stamp n t q
 
+-- each number but the first moved down by one
+pub record Closed (s s′ : List ℕ) : Type 0 where
+  pub long : length s′ ≡ length s
+  pub moved : (i : ℕ) → i + 1 < length s → getD s′ i 0 ≡ getD s (i + 1) 0
+  pub last : (i : ℕ) → i + 1 ≡ length s → getD s′ i 0 ≡ getD s i 0
+
 -- the order's places from k + 1 to l moved down by one, and nothing else
 pub record Shifted (k l : ℕ) (t t′ : List ℕ) : Type 0 where
   pub long : length t′ ≡ length t

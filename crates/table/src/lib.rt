@@ -4,7 +4,7 @@ use bits::Found;
 ghost use mathlib.Core.Path.{_≡_};
 ghost use Prim.Native.Nat.{ℕ, _+_, _-_, _≤_, _<_};
 ghost use lib.ListN.{length, getD, set};
-ghost use Rattle.table.specs.Table.{Table, Shape, Ordered, Placed, Rested, Says, Rank, Bracket, Born, Ended, Shifted, Started, next, count, order, stamp, live, findIn, sign};
+ghost use Rattle.table.specs.Table.{Table, Shape, Ordered, Placed, Rested, Says, Rank, Bracket, Born, Ended, Closed, Shifted, Started, next, count, order, stamp, live, findIn, sign};
 
 fn wide(x: u32) -> usize
     ensures { λ r. ⌜ r ≡ x ⌝ }
@@ -128,17 +128,25 @@ pub fn birth_at(t: &mut [u32], n: usize, p: usize)
     put(t, 1, l + 1);
 }
 
+// Each word but the first moves down by one. Over a part lent for it, so that the compiler makes it one move of memory.
+fn close_gap(s: &mut [u32])
+    requires { ⌜ 0 < length (now s) ⌝ }
+    ensures { λ _. ⌜ Closed (now (s .entry)) (now (s .exit)) ⌝ }
+{
+    let mut i = 1;
+    while i < s.len() {
+        let q = s[i];
+        s[i - 1] = q;
+        i += 1;
+    }
+}
+
 // The places of the order from `k + 1` to `l` move down by one.
 fn shift(t: &mut [u32], k: usize, l: usize)
     requires { ⌜ (k < l) × (2 + l ≤ length (now t)) ⌝ }
     ensures { λ _. ⌜ Shifted k l (now (t .entry)) (now (t .exit)) ⌝ }
 {
-    let mut i = k;
-    while i + 1 < l {
-        let q = t[3 + i];
-        t[2 + i] = q;
-        i += 1;
-    }
+    close_gap(&mut t[2 + k..2 + l]);
 }
 
 // The thing at place `p` ends.

@@ -8,6 +8,7 @@ use native.Mathlib.Omega.{arith}
 use Prim.Native.Nat.{ℕ, zero, suc, _+_, _-_, _<_, _≤_}
 use lib.ListN.{length}
 use Rattle.seqs.specs.Seqs.{count}
+use Rattle.seqs.proofs.Base.{tick-no}
 use Rattle.table.specs.Table.{Says}
 use Rattle.bits.specs.declared.Found.{Found}
 use Rattle.bits.specs.declared.Found.the-variants.{At, Nothing}
@@ -17,17 +18,21 @@ use Rattle.places.specs.Alias.{RState}
 use Rattle.places.specs.Store.{Kind, op, blk, reg, usg, nodeOf, holderOf, Thing, Thing-dec, Con, State, Live, Sound, Clear, up}
 use Rattle.places.specs.View.{num, view}
 use Rattle.places.specs.Hist.{hist, ruleState, meaning}
-use Rattle.places.specs.Walk.{pick, walk}
+use Rattle.places.specs.Parts.{rowsOf}
+use Rattle.places.specs.Walk.{pick, gather, kids, walkBy, population, walk}
 use Rattle.places.specs.Members.{roleOf, memberAt, containerAt, listAt, homeOf, heldCode, insideCode, markCode, enterCode, besideCode}
 use Rattle.places.proofs.Cut.{pick-0, pick-1, zero-or}
+use Rattle.places.proofs.Nest.{kindCode}
+use Rattle.places.proofs.DropTurn.{kids-op, kids-blk}
 use Rattle.places.proofs.Steps.{some-none}
 use Rattle.places.specs.Roles.{Unnamed}
 use Rattle.places.proofs.RuleRefusals.{refusal-name, refusal-tests, missing-first, missing-next, member-there, member-missing, container-there, container-missing}
 use Rattle.places.proofs.RuleLinkTests.{walk-clear, container-live, front-code, back-code, after-code, before-code, unlink-code}
 use Rattle.context.specs.declared.Layout.{Layout}
-use Rattle.context.specs.Layout.{famOf}
-use Rattle.context.specs.Memory.{stateOf, SoundStore, HomeIs}
+use Rattle.context.specs.Layout.{famOf, ncOf}
+use Rattle.context.specs.Memory.{stateOf, SoundStore, HomeIs, headCode, FirstIs}
 use Rattle.context.specs.Performed.{abs}
+use Rattle.context.proofs.Places.{place<}
 use Rattle.links.specs.Tests.{memberOf, missingCode, MayEnter, Refuses, Entering, Beside}
 use Rattle.links.specs.Climbing.{climbed, thrice}
 use Rattle.links.proofs.Climb.{said, denied, block-walk, region-walk}
@@ -249,3 +254,23 @@ block-of P c (suc w) e l = absurd (omega arith)
 pub region-of : (P : State) (c w : ℕ) → w ≢ 0 → Live P (containerAt (memberOf w) c) → Live P (reg, c)
 region-of P c zero e l = absurd (e refl)
 region-of P c (suc w) e l = l
+
+-- a member that holds nothing: nothing but itself lies in it
+pub holds : (l : Layout) (w : ℕ) → w ≤ 1 → (n : ℕ) → {m : List ℕ} (S : SoundStore l m) → Live (stateOf l m) (memberAt (memberOf w) n) → n < ncOf l (famOf (3 + w))
+holds l zero h n S v = place< S (op, n) v
+holds l (suc zero) h n S v = place< S (blk, n) v
+holds l (suc (suc w)) h n S v = absurd (omega arith)
+
+alone : (P : State) (x y : Thing) → kids P x ≡ [] → (kindCode (y .0) ≡ kindCode (x .0) → ⊥) → 0 < count Thing-dec y (walk P x) → ⊥
+unfolding walk
+alone P x y e d h = absurd (omega (arith, h, ap (λ (c : List Thing). count Thing-dec y (x ∷ gather (walkBy (kids P) (population P)) c)) e, tick-no (Thing-dec y x) (λ q. d (ap (λ (t : Thing). kindCode (t .0)) q))))
+
+head-none : (r : ℕ) (c : List Thing) → r ≡ headCode c → r ≡ 0 → c ≡ []
+head-none r [] e z = refl
+head-none r (x ∷ c) e z = absurd (omega (arith, e, z))
+
+pub empty-member : {l : Layout} {m : List ℕ} (S : SoundStore l m) (w : ℕ) → w ≤ 1 → (n c r : ℕ) → FirstIs l (famOf (3 + w)) n m r → r ≡ 0 → 0 < count Thing-dec (containerAt (memberOf w) c) (walk (stateOf l m) (memberAt (memberOf w) n)) → ⊥
+unfolding rowsOf kindCode
+empty-member {l} {m} S zero h n c r F z g = alone (stateOf l m) (op, n) (blk, c) (kids-op (S .sound .linked) n ∙ head-none r _ (F .is) z) (λ q. absurd (omega (arith, q))) g
+empty-member {l} {m} S (suc zero) h n c r F z g = alone (stateOf l m) (blk, n) (reg, c) (kids-blk (S .sound .linked) n ∙ head-none r _ (F .is) z) (λ q. absurd (omega (arith, q))) g
+empty-member S (suc (suc w)) h n c r F z g = absurd (omega arith)

@@ -124,13 +124,18 @@ fn region_in(m: &[u32], l: Layout, k: usize, x: usize, r: usize, depth: usize) -
     operation_in(m, l, k, x, s - 2, depth)
 }
 
-// Whether the container at `c` lies in the member at `n`.
+// Whether the container at `c` lies in the member at `n`. A member that holds nothing needs no climb.
 fn contained_in(m: &[u32], l: Layout, w: usize, n: usize, c: usize) -> bool
     requires { ⌜ SoundStore l (now m) ⌝ }
     requires { ⌜ w ≤ 1 ⌝ }
+    requires { ⌜ Live (stateOf l (now m)) (memberAt (memberOf w) n) ⌝ }
     requires { ⌜ Live (stateOf l (now m)) (containerAt (memberOf w) c) ⌝ }
     ensures { λ r. ⌜ Says r (0 < count Thing-dec (containerAt (memberOf w) c) (walk (stateOf l (now (m .entry))) (memberAt (memberOf w) n))) ⌝ }
 {
+    let first = context::first_of(m, l, 3 + w, n);
+    if first == 0 {
+        return false;
+    }
     let depth = context::live_count(m, l, 0);
     if w == 0 {
         return block_in(m, l, 0, n, c, depth);

@@ -36,7 +36,7 @@ sub-contained-in : tie.Need-sub-contained-in
 sub-contained-in c = search needs
 
 contained-in-requires : tie.Need-contained-in-requires
-contained-in-requires c κs = let s = c .before .before .before .before .before in (s .pre .0, (s .pre .1 .0, mark-live (s .args .w) (s .pre .1 .0) (s .args .k) (c .before .home-of2 .result) (c .before .home-of2 .ensures) (s .pre .0 .sound) (c .if2 .left)))
+contained-in-requires c κs = let s = c .before .before .before .before .before in (s .pre .0, (s .pre .1 .0, (s .pre .1 .1 .0, mark-live (s .args .w) (s .pre .1 .0) (s .args .k) (c .before .home-of2 .result) (c .before .home-of2 .ensures) (s .pre .0 .sound) (c .if2 .left))))
 
 returns-3 : tie.Need-returns-3
 returns-3 c = let s = c .before .before .before .before .before .before .before in sym (linked-none (s .args .w) (s .pre .1 .0) (s .args .n) (c .before .before .before .before .before .home-of .result) (c .before .before .before .before .before .home-of .ensures) 15 (markCode (stateOf (s .args .l) (s .args .m .now)) (memberOf (s .args .w)) (s .args .n) (homeOf (stateOf (s .args .l) (s .args .m .now)) (memberOf (s .args .w)) (s .args .k))) (c .before .before .before .before .if1 .left) ∙ mark-in (s .args .w) (s .pre .1 .0) (s .args .k) (c .before .before .before .home-of2 .result) (c .before .before .before .home-of2 .ensures) (s .args .n) (c .before .before .if2 .left) ∙ inside-yes (stateOf (s .args .l) (s .args .m .now)) (memberOf (s .args .w)) (s .args .n) (c .before .before .before .home-of2 .result - 1) (said (c .before .contained-in .result) _ (c .if3 .taken) (c .before .contained-in .ensures)))

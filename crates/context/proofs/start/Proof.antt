@@ -22,7 +22,7 @@ set-up-requires : tie.Need-set-up-requires
 set-up-requires c κs = (says-yes (c .before .before .before .before .caps-ok .result) (Caps (c .before .before .before .before .before .before .args .l)) (c .before .before .before .if1 .left) (c .before .before .before .before .caps-ok .ensures), omega (arith, c .before .before .size .ensures .is, c .before .if2 .left))
 
 same-length : tie.Need-same-length
-same-length c = search needs
+same-length c = c .before .before .set-up .kept .0
 
 returns-3 : tie.Need-returns-3
 returns-3 c =

@@ -7,7 +7,7 @@ bear-requires : tie.Need-bear-requires
 bear-requires c κs = search needs
 
 same-length : tie.Need-same-length
-same-length c = search needs
+same-length c = c .before .before .bear .kept .0
 
 returns : tie.Need-returns
 returns c = let e = c .before .before .bear in borne-block (e .result) (c .before .before .before .before .before .pre .0) (e .ensures)

@@ -16,7 +16,7 @@ leave-requires : tie.Need-leave-requires
 leave-requires c κs = (c .before .before .before .before .before .pre .0, home-stands (c .before .before .home-of .result) (c .before .before .home-of .ensures) (c .before .if1 .left))
 
 same-length-2 : tie.Need-same-length-2
-same-length-2 c = search needs
+same-length-2 c = c .before .before .leave .kept .0
 
 returns-2 : tie.Need-returns-2
 returns-2 c = freed-some (home-stands (c .before .before .before .before .before .home-of .result) (c .before .before .before .before .before .home-of .ensures) (c .before .before .before .before .if1 .left)) (c .before .before .leave .ensures)

@@ -1,6 +1,5 @@
 use Rattle.context.specs.Layout.{famOf, nnOf}
 use Rattle.context.proofs.Linking.{linked-to}
-use borrow.Author.Needs.{needs}
 use Rattle.context.proofs.lists.link_back.Statement.{statement}
 use Rattle.context.proofs.lists.link_back.Tie as tie
 
@@ -10,7 +9,7 @@ enter-back-requires c κs =
     (b .pre .0 .well, (b .pre .1 .1 .0, b .pre .1 .1 .1 .free))
 
 same-length : tie.Need-same-length
-same-length c = search needs
+same-length c = c .before .before .enter-back .kept .0
 
 returns : tie.Need-returns
 returns c =

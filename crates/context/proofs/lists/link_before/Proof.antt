@@ -1,5 +1,4 @@
 use Rattle.context.proofs.Linking.{mark-stands, linked-by}
-use borrow.Author.Needs.{needs}
 use Rattle.context.proofs.lists.link_before.Statement.{statement}
 use Rattle.context.proofs.lists.link_before.Tie as tie
 
@@ -9,7 +8,7 @@ enter-before-requires c κs =
     (b .pre .0 .well, (mark-stands (b .pre .0) (b .args .mark) (b .args .n) (b .pre .1 .1 .1), (b .pre .1 .1 .0, b .pre .1 .1 .1 .can .free)))
 
 same-length : tie.Need-same-length
-same-length c = search needs
+same-length c = c .before .before .enter-before .kept .0
 
 returns : tie.Need-returns
 returns c =

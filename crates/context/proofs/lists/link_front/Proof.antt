@@ -1,5 +1,4 @@
 use Rattle.context.proofs.Linking.{linked-to}
-use borrow.Author.Needs.{needs}
 use Rattle.context.proofs.lists.link_front.Statement.{statement}
 use Rattle.context.proofs.lists.link_front.Tie as tie
 
@@ -9,7 +8,7 @@ enter-front-requires c κs =
     (b .pre .0 .well, (b .pre .1 .1 .0, b .pre .1 .1 .1 .free))
 
 same-length : tie.Need-same-length
-same-length c = search needs
+same-length c = c .before .before .enter-front .kept .0
 
 returns : tie.Need-returns
 returns c =

@@ -1,5 +1,4 @@
 use Rattle.context.proofs.Linking.{unlinked}
-use borrow.Author.Needs.{needs}
 use Rattle.context.proofs.lists.unlink.Statement.{statement}
 use Rattle.context.proofs.lists.unlink.Tie as tie
 
@@ -9,7 +8,7 @@ leave-requires c κs =
     (b .pre .0 .well, b .pre .1 .1)
 
 same-length : tie.Need-same-length
-same-length c = search needs
+same-length c = c .before .before .leave .kept .0
 
 returns : tie.Need-returns
 returns c =

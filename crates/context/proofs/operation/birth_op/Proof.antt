@@ -1,3 +1,4 @@
+use mathlib.Core.Path.{_∙_}
 use native.Mathlib.Omega.{arith}
 use Rattle.places.specs.Store.{op}
 use Rattle.context.proofs.Books.{borne-live}
@@ -15,7 +16,7 @@ put-flags-requires c κs =
     (e .ensures .well, (e .ensures .room, λ z. absurd (omega (arith, z, borne-live op (e .result) (e .ensures)))))
 
 same-length : tie.Need-same-length
-same-length c = search needs
+same-length c = c .before .before .put-flags .kept .0 ∙ c .before .before .before .before .before .before .bear .kept .0
 
 returns : tie.Need-returns
 returns c =

@@ -1,9 +1,8 @@
-use mathlib.Core.Path.{refl}
+use mathlib.Core.Path.{refl, _∙_}
 use Rattle.places.specs.Store.{op, opsIn}
 use Rattle.context.proofs.Places.{place<}
 use Rattle.context.proofs.Tags.{still-live, tag-now}
 use Rattle.context.proofs.Ending.{op-not-use, live₁, ended-flags}
-use borrow.Author.Needs.{needs}
 use Rattle.context.proofs.operation.end_operation.Statement.{statement}
 use Rattle.context.proofs.operation.end_operation.Tie as tie
 
@@ -24,7 +23,7 @@ finish-requires c κs =
     (t .well, (still-live t (live₁ opsIn (b .args .o) op-not-use (b .pre .0) (b .pre .1) (c .before .before .before .before .before .before .before .detach .ensures)), tag-now t))
 
 same-length : tie.Need-same-length
-same-length c = search needs
+same-length c = c .before .before .finish .kept .0 ∙ c .before .before .before .before .before .before .put-flags .kept .0 ∙ c .before .before .before .before .before .before .before .before .before .before .detach .kept .0
 
 returns : tie.Need-returns
 returns c =

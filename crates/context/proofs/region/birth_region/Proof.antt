@@ -1,3 +1,4 @@
+use mathlib.Core.Path.{_∙_}
 use Rattle.context.proofs.ValueLaws.{no-home, borne-region}
 use Rattle.context.proofs.Places.{place<}
 use Rattle.places.specs.Store.{op}
@@ -15,7 +16,7 @@ enter-back-requires c κs =
     (e .ensures .well, ((place< (b .pre .0) (op, b .args .o) (b .pre .1 .home), e .ensures .room), no-home (b .args .o) (b .pre .0) (b .pre .1) (e .result) (e .ensures)))
 
 same-length : tie.Need-same-length
-same-length c = search needs
+same-length c = c .before .before .enter-back .kept .0 ∙ c .before .before .before .before .before .before .bear .kept .0
 
 returns : tie.Need-returns
 returns c =

@@ -1,8 +1,8 @@
+use mathlib.Core.Path.{_∙_}
 use Rattle.places.specs.Store.{reg, regs}
 use Rattle.context.proofs.Places.{place<}
 use Rattle.context.proofs.Tags.{untagged}
 use Rattle.context.proofs.Ending.{region-not-use, live₁, ended-plain}
-use borrow.Author.Needs.{needs}
 use Rattle.context.proofs.region.end_region.Statement.{statement}
 use Rattle.context.proofs.region.end_region.Tie as tie
 
@@ -18,7 +18,7 @@ finish-requires c κs =
     (d .well, (live₁ regs (b .args .r) region-not-use (b .pre .0) (b .pre .1) d, untagged _ _ reg (b .args .r) (λ h. elim h [ ])))
 
 same-length : tie.Need-same-length
-same-length c = search needs
+same-length c = c .before .before .finish .kept .0 ∙ c .before .before .before .before .before .before .detach .kept .0
 
 returns : tie.Need-returns
 returns c =

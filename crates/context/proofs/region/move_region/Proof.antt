@@ -1,3 +1,4 @@
+use mathlib.Core.Path.{_∙_}
 use Rattle.places.specs.Store.{op, reg}
 use Rattle.context.proofs.Places.{place<}
 use Rattle.context.proofs.Moving.{alone, moved-region}
@@ -15,7 +16,7 @@ enter-back-requires c κs =
     (w .well, ((place< (b .pre .0) (op, b .args .o) (b .pre .1 .home), place< (b .pre .0) (reg, b .args .r) (b .pre .1 .live)), alone (b .args .r) (b .args .o) (b .pre .0) (b .pre .1) w))
 
 same-length : tie.Need-same-length
-same-length c = search needs
+same-length c = c .before .before .enter-back .kept .0 ∙ c .before .before .before .before .before .before .swap-out .kept .0
 
 returns : tie.Need-returns
 returns c =

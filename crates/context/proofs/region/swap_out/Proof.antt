@@ -1,8 +1,8 @@
+use mathlib.Core.Path.{_∙_}
 use native.Mathlib.Omega.{arith}
 use Rattle.places.specs.Store.{reg}
 use Rattle.context.proofs.Places.{place<}
 use Rattle.context.proofs.Moving.{home-some, row<, stand, last-some, swapped-last, stand-w, room-w, stand₁, free₁, stand₂, swapped-gap}
-use borrow.Author.Needs.{needs}
 use Rattle.context.proofs.region.swap_out.Statement.{statement}
 use Rattle.context.proofs.region.swap_out.Tie as tie
 
@@ -22,7 +22,7 @@ leave-requires : tie.Need-leave-requires
 leave-requires c κs = (c .before .before .before .before .before .before .before .pre .0 .well, stand (c .before .before .before .before .before .before .before .args .r) (c .before .before .before .before .before .before .before .pre .0) (c .before .before .before .before .before .before .before .pre .1) (c .before .before .before .before .home-of .result) (c .before .before .before .before .home-of .ensures))
 
 same-length : tie.Need-same-length
-same-length c = search needs
+same-length c = c .before .before .leave .kept .0
 
 returns : tie.Need-returns
 returns c = swapped-last (c .before .before .before .before .before .before .before .before .before .before .args .r) (c .before .before .before .before .before .before .before .before .before .before .pre .0) (c .before .before .before .before .before .before .before .before .before .before .pre .1) (c .before .before .before .before .before .before .before .home-of .result) (c .before .before .before .before .before .before .before .home-of .ensures) (c .before .before .before .before .before .last-of .result) (c .before .before .before .before .before .last-of .ensures) (c .before .before .before .before .if1 .taken) (c .before .before .leave .ensures)
@@ -45,7 +45,7 @@ leave-requires-3 : tie.Need-leave-requires-3
 leave-requires-3 c κs = (c .before .before .before .enter-before .ensures .well, stand₂ (c .before .before .before .before .before .before .before .before .before .before .before .before .before .before .before .args .r) (c .before .before .before .before .before .before .before .before .before .before .before .before .before .before .before .pre .0) (c .before .before .before .before .before .before .before .before .before .before .before .before .before .before .before .pre .1) (c .before .before .before .before .before .before .before .before .before .before .before .before .home-of .result) (c .before .before .before .before .before .before .before .before .before .before .before .before .home-of .ensures) (c .before .before .before .before .before .before .before .before .before .before .last-of .result) (c .before .before .before .before .before .before .before .before .before .before .last-of .ensures) (c .before .before .before .before .before .before .before .before .before .if1 .left) (c .before .before .before .before .before .before .before .leave2 .ensures) (c .before .before .before .enter-before .ensures))
 
 same-length-2 : tie.Need-same-length-2
-same-length-2 c = search needs
+same-length-2 c = c .before .before .leave3 .kept .0 ∙ c .before .before .before .before .before .before .enter-before .kept .0 ∙ c .before .before .before .before .before .before .before .before .before .before .leave2 .kept .0
 
 returns-2 : tie.Need-returns-2
 returns-2 c = swapped-gap (c .before .before .before .before .before .before .before .before .before .before .before .before .before .before .before .before .before .before .args .r) (c .before .before .before .before .before .before .before .before .before .before .before .before .before .before .before .before .before .before .pre .0) (c .before .before .before .before .before .before .before .before .before .before .before .before .before .before .before .before .before .before .pre .1) (c .before .before .before .before .before .before .before .before .before .before .before .before .before .before .before .home-of .result) (c .before .before .before .before .before .before .before .before .before .before .before .before .before .before .before .home-of .ensures) (c .before .before .before .before .before .before .before .before .before .before .before .before .before .last-of .result) (c .before .before .before .before .before .before .before .before .before .before .before .before .before .last-of .ensures) (c .before .before .before .before .before .before .before .before .before .before .before .before .if1 .left) (c .before .before .before .before .before .before .before .before .before .before .leave2 .ensures) (c .before .before .before .before .before .before .enter-before .ensures) (c .before .before .leave3 .ensures)

@@ -1,3 +1,4 @@
+use mathlib.Core.Path.{_∙_}
 use Rattle.context.proofs.UseLaws.{no-slot, no-set, borne-use}
 use borrow.Author.Needs.{needs}
 use Rattle.context.proofs.value.birth_use.Statement.{statement}
@@ -20,7 +21,7 @@ enter-back-requires c κs =
     (f .well, ((b .pre .1 .0 .1, e .ensures .room), no-set (b .args .s) (b .args .i) (b .args .d) (b .pre .0) (b .pre .1 .1) (e .result) (e .ensures) f))
 
 same-length : tie.Need-same-length
-same-length c = search needs
+same-length c = c .before .before .enter-back .kept .0 ∙ c .before .before .before .before .before .before .enter-at .kept .0 ∙ c .before .before .before .before .before .before .before .before .before .before .bear .kept .0
 
 returns : tie.Need-returns
 returns c =

@@ -1,3 +1,4 @@
+use mathlib.Core.Path.{_∙_}
 use native.Mathlib.Omega.{arith}
 use Rattle.places.specs.Store.{val}
 use Rattle.context.proofs.Books.{borne-live}
@@ -22,7 +23,7 @@ enter-at-requires c κs =
     (t .well, ((b .pre .1 .0, e .ensures .room), no-list (b .args .k) (b .args .i) (b .args .t) (b .pre .0) (b .pre .1 .1) (e .result) (e .ensures) t))
 
 same-length : tie.Need-same-length
-same-length c = search needs
+same-length c = c .before .before .enter-at .kept .0 ∙ c .before .before .before .before .before .before .put-type .kept .0 ∙ c .before .before .before .before .before .before .before .before .before .before .bear .kept .0
 
 returns : tie.Need-returns
 returns c =

@@ -1,7 +1,7 @@
+use mathlib.Core.Path.{_∙_}
 use Rattle.places.specs.Store.{usg}
 use Rattle.context.proofs.Tags.{untagged}
 use Rattle.context.proofs.UseLaws.{in-slot, in-set, live₂, ended}
-use borrow.Author.Needs.{needs}
 use Rattle.context.proofs.value.end_use.Statement.{statement}
 use Rattle.context.proofs.value.end_use.Tie as tie
 
@@ -23,7 +23,7 @@ finish-requires c κs =
     (e .well, (live₂ (b .args .u) (b .pre .0) (b .pre .1) (c .before .before .before .before .before .before .before .leave .ensures) e, untagged _ _ usg (b .args .u) (λ h. elim h [ ])))
 
 same-length : tie.Need-same-length
-same-length c = search needs
+same-length c = c .before .before .finish .kept .0 ∙ c .before .before .before .before .before .before .leave2 .kept .0 ∙ c .before .before .before .before .before .before .before .before .before .before .leave .kept .0
 
 returns : tie.Need-returns
 returns c =

@@ -1,9 +1,8 @@
-use mathlib.Core.Path.{refl}
+use mathlib.Core.Path.{refl, _∙_}
 use Rattle.places.specs.Store.{val}
 use Rattle.context.proofs.Places.{place<}
 use Rattle.context.proofs.Tags.{still-live, tag-now}
 use Rattle.context.proofs.ValueLaws.{stand, live₁, ended-value}
-use borrow.Author.Needs.{needs}
 use Rattle.context.proofs.value.end_value.Statement.{statement}
 use Rattle.context.proofs.value.end_value.Tie as tie
 
@@ -26,7 +25,7 @@ finish-requires c κs =
     (t .well, (still-live t (live₁ (b .args .p) (b .pre .0) (b .pre .1) e), tag-now t))
 
 same-length : tie.Need-same-length
-same-length c = search needs
+same-length c = c .before .before .finish .kept .0 ∙ c .before .before .before .before .before .before .put-type .kept .0 ∙ c .before .before .before .before .before .before .before .before .before .before .leave .kept .0
 
 returns : tie.Need-returns
 returns c =

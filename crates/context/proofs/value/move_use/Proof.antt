@@ -1,7 +1,7 @@
+use mathlib.Core.Path.{_∙_}
 use Rattle.places.specs.Store.{usg}
 use Rattle.context.proofs.Places.{place<}
 use Rattle.context.proofs.MovedUse.{stand, alone, moved}
-use borrow.Author.Needs.{needs}
 use Rattle.context.proofs.value.move_use.Statement.{statement}
 use Rattle.context.proofs.value.move_use.Tie as tie
 
@@ -17,7 +17,7 @@ enter-back-requires c κs =
     (e .well, ((b .pre .1 .0, place< (b .pre .0) (usg, b .args .u) (b .pre .1 .1 .live)), alone (b .args .u) (b .args .k) (b .pre .0) (b .pre .1 .1) e))
 
 same-length : tie.Need-same-length
-same-length c = search needs
+same-length c = c .before .before .enter-back .kept .0 ∙ c .before .before .before .before .before .before .leave .kept .0
 
 returns : tie.Need-returns
 returns c =

@@ -10,6 +10,7 @@ use Rattle.rules.specs.Refusal.{refusal-of}
 use Rattle.rules.specs.Step.{perform}
 use Rattle.places.specs.Alias.{RState}
 use Rattle.places.specs.Hist.{meaning}
+use Rattle.places.specs.Settled.{Settles}
 use Rattle.context.specs.declared.Layout.{Layout}
 use Rattle.context.specs.Memory.{part, stateOf, SoundStore}
 
@@ -22,6 +23,8 @@ pub record Performed (l : Layout) (e : Edit) (m m′ : List ℕ) (r : Answer) : 
   pub sound : SoundStore l m′
   pub reply : numbers-of r ≡ perform (abs l m) e .0
   pub state : abs l m′ ≡ perform (abs l m) e .1
+  -- what lives on keeps its place, and births take the lowest free places
+  pub places : Settles (stateOf l m) (stateOf l m′)
   -- a refused edit changes nothing
   pub kept : refusal-of (abs l m) e ≢ 0 → m′ ≡ m
   -- what lies past the store is as it was

@@ -58,3 +58,4 @@ pub mod RuleValueCodes
 pub mod RuleBirths
 pub mod RuleGrown
 pub mod DefUse
+pub mod Settling

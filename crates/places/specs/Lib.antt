@@ -11,3 +11,4 @@ pub mod Roles
 pub mod Members
 pub mod Accepts
 pub mod DefUse
+pub mod Settled

@@ -1,5 +1,5 @@
 -- Push and insert, each way out. Assumes nothing.
-use mathlib.Core.Path.{_≡_, refl, sym, ap, ap₂, _∙_}
+use mathlib.Core.Path.{_≡_, refl, sym, ap, ap₂, _∙_, subst}
 use mathlib.Core.Logic.{_≢_}
 use mathlib.Core.List.{List, [], _∷_}
 use Prim.Native.Nat.{ℕ, _≤_, _<_}
@@ -18,6 +18,8 @@ use Rattle.places.specs.Parts.{store}
 use Rattle.places.specs.Hist.{meaning}
 use Rattle.places.specs.Edits.{birthUse}
 use Rattle.places.specs.Roles.{Unnamed, missingCode, slotRole, defKind, defRole}
+use Rattle.places.specs.Settled.{Settles}
+use Rattle.places.proofs.Settling.{settles-same, settles-birth-use, lowest-free}
 use Rattle.places.proofs.RuleUses.{slot-fits, insert-accept, push-accept}
 use Rattle.places.proofs.RuleCodes.{lost-operation, second-lost, both-there, push-code, insert-code, push-answer}
 use Rattle.context.specs.declared.Layout.{Layout}
@@ -88,15 +90,18 @@ module _ {l : Layout} {m : List ℕ} (S : SoundStore l m) (sl : Slot) (n d s k :
       room : u < P .tab usg .cap
       room = rw (cap-is l m) (R .room)
 
+      settled : Settles P (stateOf l m′)
+      settled = subst (Settles P) (sym (R .state)) (settles-birth-use (con l slots s) i (con l useSets k) (l .uses) u (settles-same (λ k. refl)) (lowest-free P usg u (R .dead) (R .lowest)))
+
       pub inserted : Performed l (insert-use sl n i d) m m′ (Accepted 0 0)
       unfolding answer clean found
       inserted =
           accepts (insert-use sl n i d) (R .sound) (insert-refusal ∙ z)
           (ap meaning born ∙ insert-accept (S .sound) sl (A .place) i (B .place) (l .uses) u (R .dead) room (A .live) limit (B .live) ∙ ap₂ (λ (a b : ℕ). accept (insert-use sl a i b) (meaning P)) (A .number) (B .number))
-          (R .rest) 0 0 refl
+          (R .rest) settled 0 0 refl
 
       pub pushed : i ≡ x → Performed l (push-use sl n d) m m′ (Accepted x 0)
       pushed e =
           accepts (push-use sl n d) (R .sound) (push-refusal e ∙ z)
           (ap meaning born ∙ push-accept (S .sound) sl (A .place) i (B .place) (l .uses) u (R .dead) room (A .live) limit (B .live) (e ∙ long) ∙ ap₂ (λ (a b : ℕ). accept (push-use sl a b) (meaning P)) (A .number) (B .number))
-          (R .rest) x 0 (push-answer (S .sound) sl (A .place) n (A .live) (A .number) d (accept (push-use sl n d) (meaning P) .history) ∙ ap (λ (a : ℕ). found a 0) (sym long))
+          (R .rest) settled x 0 (push-answer (S .sound) sl (A .place) n (A .live) (A .number) d (accept (push-use sl n d) (meaning P) .history) ∙ ap (λ (a : ℕ). found a 0) (sym long))

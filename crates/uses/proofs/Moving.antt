@@ -26,6 +26,7 @@ use Rattle.places.specs.Hist.{meaning}
 use Rattle.places.specs.Edits.{moveUse}
 use Rattle.places.specs.Roles.{Unnamed, missingCode, defKind, defRole}
 use Rattle.places.proofs.Steps.{some-inj}
+use Rattle.places.proofs.Settling.{settles-same, tables-move}
 use Rattle.places.proofs.Bits.{bit, bit-true, bit-false}
 use Rattle.places.proofs.RuleMoves.{move-accept, stay-accept}
 use Rattle.places.proofs.RuleCodes.{lost-definition, other-lost, definitions-there, held-test, lost-test}
@@ -70,7 +71,7 @@ module _ {l : Layout} {m : List ℕ} (S : SoundStore l m) (sl : Slot) (a x b d e
 
   pub stays : a ≡ b → Performed l E m m (Accepted 0 0)
   unfolding check answer clean found
-  stays q = accepts E S (code ∙ ap (λ t. check t 0 (check test 0 11)) (eq-eqb a b q)) (stay-accept (S .sound) sl a x ∙ ap (λ (y : ℕ). accept (move-use sl a x y) (meaning P)) q) refl 0 0 refl
+  stays q = accepts E S (code ∙ ap (λ t. check t 0 (check test 0 11)) (eq-eqb a b q)) (stay-accept (S .sound) sl a x ∙ ap (λ (y : ℕ). accept (move-use sl a x y) (meaning P)) q) refl (settles-same (λ k. refl)) 0 0 refl
 
   module _ (apart : a ≢ b) where
     not-held : test ≡ false → Performed l E m m (Refused 11)
@@ -119,4 +120,4 @@ module _ {l : Layout} {m : List ℕ} (S : SoundStore l m) (sl : Slot) (a x b d e
               ∙ move-accept (S .sound) sl u (A .place) (B .place) (l .uses) (u-is .0) held (B .live) (λ q. apart (sym (A .number) ∙ q ∙ B .number))
               ∙ ap₂ (λ (y : ℕ) (z : ℕ). accept (move-use sl y z (num P (defKind sl, B .place))) (meaning P)) (A .number) (u-is .1)
               ∙ ap (λ (y : ℕ). accept (move-use sl a x y) (meaning P)) (B .number))
-              (M .rest) 0 0 refl
+              (M .rest) (settles-same (λ k. ap (λ (Q : State). Q .tab k) (M .state (defRole sl, (defKind sl, A .place)) held) ∙ tables-move (defRole sl, (defKind sl, A .place)) (con l useSets e) (l .uses) (usg, u) P k)) 0 0 refl

@@ -24,13 +24,14 @@ use Rattle.rules.specs.Orders.{order, reorder}
 use Rattle.rules.specs.State.{new-flags, new-types}
 use Rattle.rules.specs.Refusal.{from-state}
 use Rattle.rules.specs.Step.{answer}
-use Rattle.places.specs.Store.{usg, useSets, Thing, Con, State, alive, Live, Fit, UseHeld, enter, leave, relink, setOwn, setList}
+use Rattle.places.specs.Store.{Kind, usg, useSets, Thing, Con, State, alive, Live, Fit, UseHeld, enter, leave, relink, setOwn, setList}
 use Rattle.places.specs.View.{num}
 use Rattle.places.specs.Hist.{meaning}
 use Rattle.places.specs.Edits.{moveUse}
 use Rattle.places.specs.Roles.{defKind, defRole}
 use Rattle.places.proofs.Steps.{some-inj}
 use Rattle.places.proofs.Sees.{num-inj}
+use Rattle.places.proofs.Settling.{settles-same, tables-move}
 use Rattle.places.proofs.RuleMoves.{rehold, rehold-self, rehold-uses, rehold-twice, reheld-accept}
 use Rattle.places.proofs.RuleSome.{placed, placed-twice, placed-none, placed-stays, one-placed}
 use Rattle.places.proofs.RuleCodes.{definitions-there}
@@ -94,6 +95,10 @@ module _ {l : Layout} {d e x : ℕ} {m : List ℕ} (S : SoundStore l m) (W : Bet
   one-rest (PlacedOne.moved u lu nu held M) = M .rest
   one-rest (PlacedOne.stayed h) = refl
 
+  pub one-tables : {m′ : List ℕ} → PlacedOne l d e x m m′ → (k : Kind) → stateOf l m′ .tab k ≡ stateOf l m .tab k
+  one-tables (PlacedOne.moved u lu nu held M) k = ap (λ (Q : State). Q .tab k) (M .state (con l useSets d) held) ∙ tables-move (con l useSets d) (con l useSets e) (l .uses) (usg, u) (stateOf l m) k
+  one-tables (PlacedOne.stayed h) k = refl
+
   pub one-kept : {m′ : List ℕ} → PlacedOne l d e x m m′ → (c f : ℕ) → DefAt l m operand c f → DefAt l m′ operand c f
   one-kept (PlacedOne.moved u lu nu held M) c f A = def-kept held M operand c f A
   one-kept (PlacedOne.stayed h) c f A = A
@@ -142,12 +147,13 @@ module _ {l : Layout} {m : List ℕ} (S : SoundStore l m) (d e x : ℕ) (W : Bet
 pub record Going (l : Layout) (d e : ℕ) (fs m₀ : List ℕ) (i : ℕ) (m : List ℕ) : Type 0 where
   pub sound : SoundStore l m
   pub rest : part l m 14 ≡ part l m₀ 14
+  pub tables : (k : Kind) → stateOf l m .tab k ≡ stateOf l m₀ .tab k
   pub between : Between l m operand d e
   pub kept : (c f : ℕ) → DefAt l m₀ operand c f → DefAt l m operand c f
   pub left : (a b : ℕ) → DefAt l m₀ operand a d → DefAt l m₀ operand b e → rehold (to a b (λ u. member u (drop i fs)) (uses l m)) (meaning (stateOf l m)) ≡ rehold (to a b (λ u. member u (drop 2 fs)) (uses l m₀)) (meaning (stateOf l m₀))
 
 pub begins : {l : Layout} {d e : ℕ} (fs : List ℕ) {m : List ℕ} → SoundStore l m → Between l m operand d e → Going l d e fs m 2 m
-begins fs S W = record { sound = S; rest = refl; between = W; kept = λ c f A. A; left = λ a b A B. refl }
+begins fs S W = record { sound = S; rest = refl; tables = λ k. refl; between = W; kept = λ c f A. A; left = λ a b A B. refl }
 
 pub goes-on : {l : Layout} {d e : ℕ} {fs m₀ : List ℕ} (i : ℕ) {m m′ : List ℕ} (x : ℕ) → Going l d e fs m₀ i m → i < length fs → x ≡ getD fs i 0 → PlacedOne l d e x m m′ → Going l d e fs m₀ (i + 1) m′
 unfolding member
@@ -155,6 +161,7 @@ goes-on {l} {d} {e} {fs} {m₀} i {m} {m′} x G i< at O =
     record {
       sound = one-sound (G .sound) (G .between) O;
       rest = one-rest (G .sound) (G .between) O ∙ G .rest;
+      tables = λ k. one-tables (G .sound) (G .between) O k ∙ G .tables k;
       between = record { this = G .between .this; other = G .between .other; from = keeps (G .between .this) d (G .between .from); to = keeps (G .between .other) e (G .between .to) };
       kept = λ c f A. keeps c f (G .kept c f A);
       left = λ a b A B. step a b (one-done (G .sound) (G .between) O a b (G .kept a d A) (G .kept b e B)) ∙ G .left a b A B;
@@ -186,6 +193,7 @@ ends {l} {d} {e} {fs} {m₀} i {m} G h =
     record {
       sound = G .sound;
       rest = G .rest;
+      tables = G .tables;
       state = λ a b A B.
           reheld-accept (stateOf l m₀) (stateOf l m) (G .sound .sound) (replace-some a b (drop 2 fs)) (record { orders = λ h k r. refl; flags = refl; types = refl }) (to a b (λ u. member u (drop 2 fs)) (uses l m₀))
           (sym (ap (λ (t : Table Definition). rehold t (meaning (stateOf l m))) (ap (λ (r : List ℕ). to a b (λ u. member u r) (uses l m)) (drop-all i fs h) ∙ placed-none (defined operand a) (defined operand b) (uses l m)) ∙ rehold-self (meaning (stateOf l m))) ∙ G .left a b A B)
@@ -197,7 +205,7 @@ ends {l} {d} {e} {fs} {m₀} i {m} G h =
 module _ {l : Layout} {m : List ℕ} (S : SoundStore l m) (a b d e : ℕ) (A : DefAt l m operand a d) (B : DefAt l m operand b e) (us : List ℕ) where
   pub replaced-some : {m′ : List ℕ} → PlacedAll l d e us m m′ → Performed l (replace-some a b us) m m′ (Accepted 0 0)
   unfolding from-state answer clean found
-  replaced-some Q = accepts (replace-some a b us) (Q .sound) (definitions-there (S .sound) (replace-some a b us) operand (A .place) a (A .live) (A .number) b (B .place) (names-some a b us) (B .live) (B .number)) (Q .state a b A B) (Q .rest) 0 0 refl
+  replaced-some Q = accepts (replace-some a b us) (Q .sound) (definitions-there (S .sound) (replace-some a b us) operand (A .place) a (A .live) (A .number) b (B .place) (names-some a b us) (B .live) (B .number)) (Q .state a b A B) (Q .rest) (settles-same (Q .tables)) 0 0 refl
 
 -- ---- the record
 

@@ -1,5 +1,5 @@
 -- Replace, each way out: the use at the index ends, and a new one is born there. Assumes nothing.
-use mathlib.Core.Path.{_≡_, refl, sym, ap, ap₂, _∙_}
+use mathlib.Core.Path.{_≡_, refl, sym, ap, ap₂, _∙_, subst}
 use mathlib.Core.Logic.{ite, if-pos, if-neg}
 use mathlib.Core.List.{List}
 use Prim.Native.Nat.{ℕ, _≤_, _<_}
@@ -18,6 +18,8 @@ use Rattle.places.specs.Store.{op, usg, slots, useSets, Con, State, UseHeld}
 use Rattle.places.specs.Hist.{meaning}
 use Rattle.places.specs.Edits.{birthUse, endUse}
 use Rattle.places.specs.Roles.{slotRole, defKind, defRole}
+use Rattle.places.specs.Settled.{Settles}
+use Rattle.places.proofs.Settling.{settles-birth-use, settles-end-use, lowest-free}
 use Rattle.places.proofs.RuleAccept.{lives-born}
 use Rattle.places.proofs.RuleUses.{slot-fits}
 use Rattle.places.proofs.RuleEnds.{at-held, ended-order}
@@ -93,6 +95,12 @@ module _ {l : Layout} {m : List ℕ} (S : SoundStore l m) (sl : Slot) (n i d s k
               home = rw left (still-def (S .sound) sl (A .place) i u (A .live) inside at (B .place) (B .live));
             })
 
+        settled : {m₂ : List ℕ} (p : ℕ) → BorneUse l s i k m₁ m₂ p → Settles P (stateOf l m₂)
+        unfolding H
+        settled p R =
+            subst (Settles P) (sym (R .state))
+            (settles-birth-use (con l slots s) i (con l useSets k) (l .uses) p (subst (Settles P) (sym left) (settles-end-use (H .slot) (H .def) (usg, u) P)) (lowest-free (stateOf l m₁) usg p (R .dead) (R .lowest)))
+
         pub replaced : {m₂ : List ℕ} (p : ℕ) → BorneUse l s i k m₁ m₂ p → Performed l E m m₂ (Accepted 0 0)
         unfolding answer clean found
         replaced {m₂} p R =
@@ -100,4 +108,4 @@ module _ {l : Layout} {m : List ℕ} (S : SoundStore l m) (sl : Slot) (n i d s k
             (ap meaning (R .state ∙ ap₂ (λ (a b : Con). birthUse a i b (l .uses) p (stateOf l m₁)) (A .row) (B .row) ∙ ap (birthUse (slotRole sl, (op, A .place)) i (defRole sl, (defKind sl, B .place)) (l .uses) p) left)
             ∙ replace-accept (S .sound) sl (A .place) i u (A .live) inside at (B .place) (l .uses) p (rw left at (R .dead)) (rw (left-cap (S .sound) sl (A .place) i u (A .live) inside at usg, cap-is l m) (R .room)) (B .live)
             ∙ ap₂ (λ (a b : ℕ). accept (replace-use sl a i b) (meaning P)) (A .number) (B .number))
-            (R .rest ∙ D .rest) 0 0 refl
+            (R .rest ∙ D .rest) (settled p R) 0 0 refl

@@ -22,6 +22,7 @@ use Rattle.places.specs.Hist.{meaning}
 use Rattle.places.specs.Verdict.{strayUser}
 use Rattle.places.proofs.RuleAccept.{endedOf}
 use Rattle.places.proofs.RuleMoves.{rehold, rehold-self}
+use Rattle.places.proofs.Settling.{settles-same}
 use Rattle.places.proofs.RuleSome.{placed}
 use Rattle.places.proofs.RuleRetarget.{chosen, retarget-accept}
 use Rattle.places.proofs.RuleCodes.{definitions-there}
@@ -95,8 +96,8 @@ module _ {l : Layout} {m : List ℕ} (S : SoundStore l m) (a b d e : ℕ) (A : D
         (sym (ap (λ (y : ℕ). rehold (placed (of-block a) (of-block y) (chosen (meaning P .history) ps) (meaning P .history .uses)) (meaning P)) (sym same)
         ∙ ap (λ (t : Table Definition). rehold t (meaning P)) (placed-self (of-block a) (chosen (meaning P .history) ps) (meaning P .history .uses))
         ∙ rehold-self (meaning P))))
-        refl 0 0 refl
+        refl (settles-same (λ k. refl)) 0 0 refl
 
     pub retargeted : {m′ : List ℕ} → RetargetedAll l d e ps m m′ → Performed l E m m′ (Accepted 0 0)
     unfolding answer clean found
-    retargeted Q = accepts E (Q .sound) code₀ (Q .state a b A B) (Q .rest) 0 0 refl
+    retargeted Q = accepts E (Q .sound) code₀ (Q .state a b A B) (Q .rest) (settles-same (Q .tables)) 0 0 refl

@@ -10,7 +10,7 @@ use Rattle.seqs.specs.Seqs.{count, In, insertAt, without}
 use Rattle.seqs.proofs.Base.{tick-yes, tick-no, count-append, in-head}
 use Rattle.edit.specs.Record.{successor, of-block}
 use Rattle.rules.specs.Table.{some-and, member}
-use Rattle.places.specs.Store.{op, blk, reg, val, usg, blockUses, Fam, slots, useSets, regs, opsIn, blocksIn, fam, Thing, Thing-dec, Con, State, Fit, UseHeld, enter, leave, outer, up}
+use Rattle.places.specs.Store.{Kind, op, blk, reg, val, usg, blockUses, Fam, slots, useSets, regs, opsIn, blocksIn, fam, Thing, Thing-dec, Con, State, Fit, UseHeld, enter, leave, outer, up}
 use Rattle.places.specs.View.{num}
 use Rattle.places.specs.Alias.{RState}
 use Rattle.places.specs.Hist.{meaning}
@@ -18,6 +18,7 @@ use Rattle.places.specs.Edits.{moveUse}
 use Rattle.places.proofs.Steps.{some-inj, lists, owners, list-left, once}
 use Rattle.places.proofs.Placing.{slots≢useSets}
 use Rattle.places.proofs.RuleMoves.{rehold}
+use Rattle.places.proofs.Settling.{tables-move}
 use Rattle.places.proofs.RuleSome.{placed}
 use Rattle.places.proofs.RuleRetarget.{chosen, none-left, still-left, retarget-accept}
 use Rattle.context.specs.declared.Layout.{Layout}
@@ -104,6 +105,7 @@ whole ps a b s = rehold (placed (of-block a) (of-block b) (chosen (s .history) p
 pub record Going (l : Layout) (d e : ℕ) (ps m₀ : List ℕ) (k : ℕ) (m : List ℕ) : Type 0 where
   pub sound : SoundStore l m
   pub rest : part l m 14 ≡ part l m₀ 14
+  pub tables : (k : Kind) → stateOf l m .tab k ≡ stateOf l m₀ .tab k
   pub between : Between l m successor d e
   pub kept : (n f : ℕ) → DefAt l m₀ successor n f → DefAt l m successor n f
   pub at : At l useSets d m k
@@ -113,7 +115,7 @@ pub record Going (l : Layout) (d e : ℕ) (ps m₀ : List ℕ) (k : ℕ) (m : Li
 
 pub begins : {l : Layout} {d e : ℕ} (ps : List ℕ) {m : List ℕ} (k : ℕ) → SoundStore l m → Between l m successor d e → FirstIs l useSets d m k → Going l d e ps m k m
 unfolding first-at
-begins ps k S W F = record { sound = S; rest = refl; between = W; kept = λ n f A. A; at = first-at k F; passed = λ y i. absurd (omega (arith, i)); left = λ a b A B. refl }
+begins ps k S W F = record { sound = S; rest = refl; tables = λ k. refl; between = W; kept = λ n f A. A; at = first-at k F; passed = λ y i. absurd (omega (arith, i)); left = λ a b A B. refl }
 
 module _ {l : Layout} {d e : ℕ} {ps m₀ : List ℕ} {k : ℕ} {m : List ℕ} (G : Going l d e ps m₀ k m) (h : k ≡ 0 → ⊥) where
   abbrev S : State
@@ -146,7 +148,7 @@ module _ {l : Layout} {d e : ℕ} {ps m₀ : List ℕ} {k : ℕ} {m : List ℕ} 
     unfolding next-at
     stays n =
         let A : At l useSets d m j = next-at (G .sound) (G .at) h j N in
-        (record { sound = G .sound; rest = G .rest; between = G .between; kept = G .kept; at = A; passed = by; left = G .left }, less (G .sound) (G .at) h (G .sound) A refl)
+        (record { sound = G .sound; rest = G .rest; tables = G .tables; between = G .between; kept = G .kept; at = A; passed = by; left = G .left }, less (G .sound) (G .at) h (G .sound) A refl)
       where
         by : (y : Thing) → In Thing-dec y (G .at .done ++ v ∷ []) → standsIn S ps y ≡ false
         by y i =
@@ -191,6 +193,7 @@ module _ {l : Layout} {d e : ℕ} {ps m₀ : List ℕ} {k : ℕ} {m : List ℕ} 
         record {
           sound = M .sound;
           rest = M .rest ∙ G .rest;
+          tables = λ k. ap (λ (Q : State). Q .tab k) state ∙ tables-move (con l useSets d) (con l useSets e) (l .uses) v S k ∙ G .tables k;
           between = record { this = G .between .this; other = G .between .other; from = keeps (G .between .this) d (G .between .from); to = keeps (G .between .other) e (G .between .to) };
           kept = λ n f A. keeps n f (G .kept n f A);
           at = at′;
@@ -209,7 +212,7 @@ module _ {l : Layout} {d e : ℕ} {ps m₀ : List ℕ} {k : ℕ} {m : List ℕ} 
 
 pub all-passed : {l : Layout} {d e : ℕ} {ps m₀ : List ℕ} {k : ℕ} {m : List ℕ} → Going l d e ps m₀ k m → k ≡ 0 → RetargetedAll l d e ps m₀ m
 unfolding whole
-all-passed {l} {d} {e} {ps} {m₀} {k} {m} G z = record { sound = G .sound; rest = G .rest; state = λ a b A B. retarget-accept (stateOf l m₀) (stateOf l m) (G .sound .sound) a b ps (sym (none a b (G .kept a d A)) ∙ G .left a b A B) }
+all-passed {l} {d} {e} {ps} {m₀} {k} {m} G z = record { sound = G .sound; rest = G .rest; tables = G .tables; state = λ a b A B. retarget-accept (stateOf l m₀) (stateOf l m) (G .sound .sound) a b ps (sym (none a b (G .kept a d A)) ∙ G .left a b A B) }
   where
     all-done : (a : List Thing) (b : List Thing) → b ≡ [] → (y : Thing) → In Thing-dec y (a ++ b) → In Thing-dec y a
     all-done a b q y i = omega (arith, i, count-append Thing-dec y a b, ap (count Thing-dec y) q)

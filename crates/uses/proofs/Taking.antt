@@ -1,5 +1,5 @@
 -- Remove and pop, each way out; and the use that is taken out. Assumes nothing.
-use mathlib.Core.Path.{_≡_, refl, sym, ap, _∙_}
+use mathlib.Core.Path.{_≡_, refl, sym, ap, _∙_, subst}
 use mathlib.Core.List.{List}
 use mathlib.Core.Option.{some}
 use Prim.Native.Nat.{ℕ, zero, suc, _-_, _≤_, _<_}
@@ -18,7 +18,9 @@ use Rattle.places.specs.Edits.{endUse}
 use Rattle.places.specs.View.{num}
 use Rattle.places.specs.Parts.{conOf}
 use Rattle.places.specs.Roles.{slotRole}
+use Rattle.places.specs.Settled.{Settles}
 use Rattle.places.proofs.Steps.{some-inj, some-none}
+use Rattle.places.proofs.Settling.{settles-end-use}
 use Rattle.places.proofs.RuleEnds.{at-live, at-held, at-number, remove-accept, pop-accept}
 use Rattle.places.proofs.RuleCodes.{only-operation, remove-code, pop-code, remove-answer, pop-answer}
 use Rattle.context.specs.declared.Layout.{Layout}
@@ -100,12 +102,15 @@ module _ {l : Layout} {m : List ℕ} (S : SoundStore l m) (sl : Slot) (n s : ℕ
     number-is : num P (H .def .1) ≡ r
     number-is = sym (T .number (H .def) (H .in-def))
 
+    settled : Settles P (stateOf l m′)
+    settled = subst (Settles P) (sym gone) (settles-end-use (H .slot) (H .def) (usg, q) P)
+
     pub removed : Performed l (remove-use sl n i) m m′ (Accepted r 0)
     unfolding check H
     removed =
         accepts (remove-use sl n i) (T .ended .sound) (remove-refusal i ∙ ap (λ b. check b 12 0) (lt-leb x i i<))
         (ap meaning gone ∙ remove-accept (S .sound) sl (A .place) i q (A .live) inside at ∙ ap (λ (a : ℕ). accept (remove-use sl a i) (meaning P)) (A .number))
-        (T .ended .rest) r 0
+        (T .ended .rest) settled r 0
         (remove-answer (S .sound) sl (A .place) n (A .live) (A .number) i q (at-live (S .sound) sl (A .place) i q (A .live) inside at) (at-number (S .sound) sl (A .place) i q (A .live) inside at) (H .def) (H .in-def) (accept (remove-use sl n i) (meaning P) .history) ∙ ap (λ (a : ℕ). found a 0) number-is)
 
     pub popped : i ≡ x - 1 → Performed l (pop-use sl n) m m′ (Accepted r 0)
@@ -113,5 +118,5 @@ module _ {l : Layout} {m : List ℕ} (S : SoundStore l m) (sl : Slot) (n s : ℕ
     popped e =
         accepts (pop-use sl n) (T .ended .sound) (pop-refusal ∙ ap (λ b. check b 12 0) (ne-eqb x 0 (λ z. absurd (omega (arith, z, i<)))))
         (ap meaning gone ∙ pop-accept (S .sound) sl (A .place) i q (A .live) inside at (e ∙ ap (λ (a : ℕ). a - 1) long) ∙ ap (λ (a : ℕ). accept (pop-use sl a) (meaning P)) (A .number))
-        (T .ended .rest) r 0
+        (T .ended .rest) settled r 0
         (pop-answer (S .sound) sl (A .place) n (A .live) (A .number) i q (at-live (S .sound) sl (A .place) i q (A .live) inside at) (at-number (S .sound) sl (A .place) i q (A .live) inside at) (H .def) (H .in-def) (e ∙ ap (λ (a : ℕ). a - 1) long) (accept (pop-use sl n) (meaning P) .history) ∙ ap (λ (a : ℕ). found a 0) number-is)

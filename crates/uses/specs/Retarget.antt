@@ -8,7 +8,7 @@ use Prim.Native.Nat.{ℕ, zero, suc}
 use Rattle.edit.specs.Record.{successor, retarget-some}
 use Rattle.rules.specs.Table.{any, some-and, is-some, member}
 use Rattle.rules.specs.State.{accept}
-use Rattle.places.specs.Store.{blk, usg, slots, useSets, Thing, State, outer, up}
+use Rattle.places.specs.Store.{Kind, blk, usg, slots, useSets, Thing, State, outer, up}
 use Rattle.places.specs.View.{num}
 use Rattle.places.specs.Hist.{meaning}
 use Rattle.context.specs.declared.Layout.{Layout}
@@ -52,4 +52,5 @@ pub data RetargetedOne (l : Layout) (e u : ℕ) (ps m : List ℕ) : List ℕ →
 pub record RetargetedAll (l : Layout) (d e : ℕ) (ps m m′ : List ℕ) : Type 0 where
   pub sound : SoundStore l m′
   pub rest : part l m′ 14 ≡ part l m 14
+  pub tables : (k : Kind) → stateOf l m′ .tab k ≡ stateOf l m .tab k
   pub state : (a b : ℕ) → DefAt l m successor a d → DefAt l m successor b e → meaning (stateOf l m′) ≡ accept (retarget-some a b ps) (meaning (stateOf l m))

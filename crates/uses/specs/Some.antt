@@ -6,7 +6,7 @@ use mathlib.Core.Option.{some}
 use Prim.Native.Nat.{ℕ}
 use Rattle.edit.specs.Record.{Slot, operand, replace-some}
 use Rattle.rules.specs.State.{accept}
-use Rattle.places.specs.Store.{usg, useSets, Live}
+use Rattle.places.specs.Store.{Kind, usg, useSets, Live}
 use Rattle.places.specs.View.{num}
 use Rattle.places.specs.Hist.{meaning}
 use Rattle.context.specs.declared.Layout.{Layout}
@@ -30,4 +30,5 @@ pub data PlacedOne (l : Layout) (d e x : ℕ) (m : List ℕ) : List ℕ → Type
 pub record PlacedAll (l : Layout) (d e : ℕ) (us m m′ : List ℕ) : Type 0 where
   pub sound : SoundStore l m′
   pub rest : part l m′ 14 ≡ part l m 14
+  pub tables : (k : Kind) → stateOf l m′ .tab k ≡ stateOf l m .tab k
   pub state : (a b : ℕ) → DefAt l m operand a d → DefAt l m operand b e → meaning (stateOf l m′) ≡ accept (replace-some a b us) (meaning (stateOf l m))

@@ -2,14 +2,16 @@
 -- Assumes nothing: these are definitions.
 use mathlib.Core.Path.{_≡_}
 use mathlib.Core.List.{List, [], _∷_, _++_}
-use Prim.Native.Nat.{ℕ, _+_, _*_, _/_, _≤_, _<_}
+use Prim.Native.Nat.{ℕ, zero, suc, _+_, _*_, _/_, _≤_, _<_}
 use lib.ListN.{length, drop, replicate}
 use Rattle.edit.specs.Record.{Edit, Cut, nothing, broken, whole, cut, Read, refused, asks, read}
 use Rattle.edit.specs.Answer.{Reply, refuse, numbers-of}
 use Rattle.edit.specs.declared.Answer.{Answer}
+use Rattle.rules.specs.Step.{obey}
 use Rattle.rules.specs.Script.{run}
+use Rattle.places.specs.Settled.{Settles}
 use Rattle.context.specs.declared.Layout.{Layout}
-use Rattle.context.specs.Memory.{part, SoundStore, layoutOf}
+use Rattle.context.specs.Memory.{part, stateOf, SoundStore, layoutOf}
 use Rattle.context.specs.Performed.{abs, Performed}
 use Rattle.script.specs.declared.Ran.{Ran}
 
@@ -59,6 +61,23 @@ unfoldable pub flat : List Reply → List ℕ
 flat [] = []
 flat (r ∷ rs) = r .refusal ∷ r .a ∷ r .b ∷ flat rs
 
+-- no record is obeyed any more: no bytes, a broken record, no room for an answer
+abbrev pub Over : Cut → ℕ → Type 0
+Over nothing room = Unit {0}
+Over broken room = Unit {0}
+Over (whole kind fs rest) zero = Unit {0}
+Over (whole kind fs rest) (suc room) = ⊥
+
+-- what was read of a record took the words from m to m′
+pub record Turned (l : Layout) (q : Read) (m m′ : List ℕ) : Type 0 where
+  pub state : abs l m′ ≡ obey (abs l m) q .1
+  pub places : Settles (stateOf l m) (stateOf l m′)
+
+-- the records of the bytes, as far as there is room for their answers, took the words from m to m′, one after another
+pub data Course (l : Layout) : List ℕ → ℕ → List ℕ → List ℕ → Type 0 where
+  over : {bytes m : List ℕ} {room : ℕ} → Over (cut bytes) room → Course l bytes room m m
+  next : {bytes m m₁ m′ : List ℕ} {room : ℕ} (kind : ℕ) (fs rest : List ℕ) → cut bytes ≡ whole kind fs rest → Turned l (read kind fs) m m₁ → Course l rest room m₁ m′ → Course l bytes (suc room) m m′
+
 -- a script that ended before its first record, with this number: nothing is written but the scratch
 pub record Ended (n : ℕ) (m m′ out out′ : List ℕ) (r : Ran) : Type 0 where
   pub code : r .code ≡ n
@@ -70,6 +89,7 @@ pub record Ended (n : ℕ) (m m′ out out′ : List ℕ) (r : Ran) : Type 0 whe
 pub record RanOn (l : Layout) (bytes m m′ out out′ : List ℕ) (r : Ran) : Type 0 where
   pub sound : SoundStore l m′
   pub state : abs l m′ ≡ run (length out / 3) (abs l m) bytes .state
+  pub places : Course l bytes (length out / 3) m m′
   pub code : r .code ≡ run (length out / 3) (abs l m) bytes .code
   pub count : r .count ≡ length (run (length out / 3) (abs l m) bytes .answers)
   pub answers : out′ ≡ flat (run (length out / 3) (abs l m) bytes .answers) ++ drop (3 * r .count) out

@@ -1,5 +1,5 @@
 -- Push and insert, each way out. Assumes nothing.
-use mathlib.Core.Path.{_≡_, refl, sym, ap, ap₂, _∙_}
+use mathlib.Core.Path.{_≡_, refl, sym, ap, ap₂, _∙_, subst}
 use mathlib.Core.Logic.{_≢_, ite}
 use mathlib.Core.List.{List, [], _∷_}
 use Prim.Native.Nat.{ℕ, zero, suc, _+_, _-_, _*_, _≤_, _<_}
@@ -19,8 +19,10 @@ use Rattle.places.specs.Parts.{store}
 use Rattle.places.specs.Hist.{meaning}
 use Rattle.places.specs.View.{num}
 use Rattle.places.specs.Roles.{Unnamed, missingCode, valueRole, memberKind}
+use Rattle.places.specs.Settled.{Settles}
 use Rattle.places.proofs.RuleValues.{insert-value-accept, push-value-accept}
 use Rattle.places.proofs.RuleValueCodes.{owner-lost, owner-there, push-value-code, insert-value-code, push-value-answer}
+use Rattle.places.proofs.Settling.{settles-same, settles-birth, settles-enter, lowest-free}
 use Rattle.context.specs.declared.Layout.{Layout}
 use Rattle.context.specs.Memory.{con, stateOf, partsOf, SoundStore, LengthIs, roomCode}
 use Rattle.context.specs.Steps.{CanBearValue, BorneValue}
@@ -96,15 +98,21 @@ module _ {l : Layout} {m : List ℕ} (S : SoundStore l m) (w : Member) (n t k : 
       room : q < P .tab val .cap
       room = rw (cap-is l m) (B .room)
 
+      -- the value took the lowest free place
+      settled : Settles P (stateOf l m′)
+      settled =
+          subst (Settles P) (sym born)
+          (settles-enter (valueRole w, (memberKind w, A .place)) i (val, q) (settles-birth (val, q) t (settles-same (λ j. refl)) (lowest-free P val q (B .dead) (B .lowest))))
+
       pub inserted : Performed l (insert-value w n i t) m m′ (Accepted 0 0)
       unfolding answer clean found
       inserted =
           accepts (insert-value w n i t) (B .sound) (insert-refusal ∙ z)
           (ap meaning born ∙ insert-value-accept (S .sound) w (A .place) i t q (B .dead) room (A .live) limit ∙ ap (λ (a : ℕ). accept (insert-value w a i t) (meaning P)) (A .number))
-          (B .rest) 0 0 refl
+          (B .rest) settled 0 0 refl
 
       pub pushed : i ≡ x → Performed l (push-value w n t) m m′ (Accepted x 0)
       pushed e =
           accepts (push-value w n t) (B .sound) (push-refusal e ∙ z)
           (ap meaning born ∙ push-value-accept (S .sound) w (A .place) i t q (B .dead) room (A .live) limit (e ∙ long) ∙ ap (λ (a : ℕ). accept (push-value w a t) (meaning P)) (A .number))
-          (B .rest) x 0 (push-value-answer (S .sound) w (A .place) n (A .live) (A .number) t (accept (push-value w n t) (meaning P) .history) ∙ ap (λ (a : ℕ). found a 0) (sym long))
+          (B .rest) settled x 0 (push-value-answer (S .sound) w (A .place) n (A .live) (A .number) t (accept (push-value w n t) (meaning P) .history) ∙ ap (λ (a : ℕ). found a 0) (sym long))

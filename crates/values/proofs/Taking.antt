@@ -18,9 +18,11 @@ use Rattle.places.specs.Store.{val, valueUses, vals, Thing, Con, State, alive, 
 use Rattle.places.specs.Hist.{meaning}
 use Rattle.places.specs.View.{num}
 use Rattle.places.specs.Roles.{valueRole, memberKind}
+use Rattle.places.specs.Settled.{Settles}
 use Rattle.places.proofs.Steps.{alive-ended}
 use Rattle.places.proofs.RuleValues.{value-own, value-there, value-number, remove-value-accept, pop-value-accept}
 use Rattle.places.proofs.RuleValueCodes.{owner-there, remove-value-code, pop-value-code, used-is}
+use Rattle.places.proofs.Settling.{settles-finish}
 use Rattle.context.specs.declared.Layout.{Layout}
 use Rattle.context.specs.Memory.{con, stateOf, SoundStore, LengthIs}
 use Rattle.context.specs.Performed.{Performed}
@@ -93,12 +95,16 @@ module _ {l : Layout} {m : List ℕ} (S : SoundStore l m) (w : Member) (n k : �
           (refuses E S r (code ∙ ap (λ b. check b 13 0) (lt-ltb 0 (length (P .list (val, q) valueUses)) (T .used z .2)) ∙ sym (T .used z .0)) z)
 
       module _ (z : r ≡ 0) (right : meaning (end (val, q) (leave home (val, q) P)) ≡ accept E (meaning P)) (says : answer E (meaning P) (accept E (meaning P) .history) ≡ found 0 0) where
-        gone : meaning (stateOf l m′) ≡ meaning (end (val, q) (leave home (val, q) P))
-        gone = ap meaning (T .ended z .state home (value-own (S .sound) w (A .place) i q inside at))
+        taken : stateOf l m′ ≡ end (val, q) (leave home (val, q) P)
+        taken = T .ended z .state home (value-own (S .sound) w (A .place) i q inside at)
+
+        -- all others keep their places
+        settled : Settles P (stateOf l m′)
+        settled = subst (Settles P) (sym taken) (settles-finish home (val, q) P)
 
         done : Performed l E m m′ (Accepted 0 0)
         unfolding check
-        done = accepts E (T .ended z .sound) (code ∙ ap (λ (y : List Thing). check (ltb 0 (length y)) 13 0) (T .idle z)) (gone ∙ right) (T .ended z .rest) 0 0 says
+        done = accepts E (T .ended z .sound) (code ∙ ap (λ (y : List Thing). check (ltb 0 (length y)) 13 0) (T .idle z)) (ap meaning taken ∙ right) (T .ended z .rest) settled 0 0 says
 
     pub remove-used : r ≢ 0 → Performed l (remove-value w n i) m m′ (Refused r)
     remove-used z = kept (remove-value w n i) remove-code z

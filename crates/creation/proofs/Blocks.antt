@@ -20,6 +20,7 @@ use Rattle.places.specs.View.{num, view, nBirth, nEnter, namedC}
 use Rattle.places.specs.Parts.{store, rowsOf}
 use Rattle.places.specs.Hist.{ruleState, meaning}
 use Rattle.places.specs.Accepts.{Accepts}
+use Rattle.places.specs.Settled.{Settles}
 use Rattle.places.proofs.Steps.{Fresh, alive-born}
 use Rattle.places.proofs.Sees.{see-birth, num-new}
 use Rattle.places.proofs.Rows.{mine}
@@ -28,6 +29,7 @@ use Rattle.places.proofs.RuleAccept.{accept-is, endedOf}
 use Rattle.places.proofs.RuleUses.{cap-birth}
 use Rattle.places.proofs.RuleValues.{value-caps}
 use Rattle.places.proofs.RuleBirths.{block-first, argument-turn}
+use Rattle.places.proofs.Settling.{settles-same, settles-birth, settles-enter, lowest-free}
 use Rattle.places.proofs.RuleGrown.{kept-birth, arguments-live, arguments-next, arguments-long, block-ended}
 use Rattle.context.specs.declared.Layout.{Layout}
 use Rattle.context.specs.Layout.{capOf, ncOf}
@@ -100,6 +102,7 @@ module _ {l : Layout} {m m₁ : List ℕ} (fs : List ℕ) (R : BlockReady l fs m
           sound = B .sound;
           rest = B .rest;
           accepts = rw (part-none fs 1) (block-first (gone l m) (λ k. ap (λ (Q : State). Q .tab k .cap) (B .state) ∙ cap-birth P₀ (blk, b) 0 k) (ap view (B .state) ∙ see-birth P₀ (R .sound .sound .linked) (blk, b) 0 fresh));
+          places = subst (Settles P₀) (sym (B .state)) (settles-birth (blk, b) 0 (settles-same (λ k. refl)) (lowest-free P₀ blk b (B .dead) (B .lowest)));
           live = rw (B .state) (omega (arith, alive-born P₀ (blk, b) 0));
           number = ap (λ (Q : State). num Q (blk, b)) (B .state) ∙ num-new P₀ (R .sound .sound .linked) (blk, b) 0 fresh;
         };
@@ -156,6 +159,10 @@ module _ {l : Layout} {m m₁ : List ℕ} (fs : List ℕ) (b j : ℕ) (A : Block
       turned : Accepts (stateOf l m) Z (new-block (part fs 1 j ++ t ∷ [])) (gone l m) (gone l m)
       turned = argument-turn Q Z (A .ready .sound .sound .linked) (gone l m) caps (part fs 1 j) (M .accepts) t j (omega (arith, so-long)) seen
 
+      -- the argument took the lowest free place
+      settled : Settles (stateOf l m) Z
+      settled = subst (Settles (stateOf l m)) (sym born) (settles-enter (arguments, (blk, b)) j (val, q) (settles-birth (val, q) t (M .places) (lowest-free Q val q (B .dead) (B .lowest))))
+
       kept : Live Z (blk, b) × (num Z (blk, b) ≡ num Q (blk, b))
       kept = rw born (kept-birth (M .sound .sound .linked) (val, q) t fresh-value (arguments, (blk, b)) j (blk, b) (M .live))
 
@@ -167,6 +174,7 @@ module _ {l : Layout} {m m₁ : List ℕ} (fs : List ℕ) (b j : ℕ) (A : Block
               sound = B .sound;
               rest = B .rest ∙ M .rest;
               accepts = rw (part-more fs 1 j (omega (arith, A .ready .fields .full, j<)), sym t-is) turned;
+              places = settled;
               live = kept .0;
               number = kept .1 ∙ M .number;
             };
@@ -187,4 +195,4 @@ module _ {l : Layout} {m m′ : List ℕ} (fs : List ℕ) (b : ℕ) (A : BlockPa
 
   pub block-done : Performed l (edit-of 2 fs) m m′ (Accepted x 0)
   unfolding answer
-  block-done = rw (is-block fs) (accepts K (A .made .sound) whole state-is (A .made .rest) x 0 (ap (λ (n : ℕ). found n 0) (born-is (A .ready .sound .sound) blk ∙ sym (X .is))))
+  block-done = rw (is-block fs) (accepts K (A .made .sound) whole state-is (A .made .rest) (A .made .places) x 0 (ap (λ (n : ℕ). found n 0) (born-is (A .ready .sound .sound) blk ∙ sym (X .is))))

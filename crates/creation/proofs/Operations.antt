@@ -25,6 +25,7 @@ use Rattle.places.specs.Parts.{store, rowsOf}
 use Rattle.places.specs.Hist.{ruleState, meaning}
 use Rattle.places.specs.Roles.{slotRole, defRole, defKind}
 use Rattle.places.specs.Accepts.{Accepts}
+use Rattle.places.specs.Settled.{Settles}
 use Rattle.places.proofs.Steps.{Fresh, alive-born, alive-enter}
 use Rattle.places.proofs.Sees.{see-birth, num-new}
 use Rattle.places.proofs.Rows.{mine}
@@ -33,6 +34,7 @@ use Rattle.places.proofs.RuleAccept.{accept-is, endedOf}
 use Rattle.places.proofs.RuleUses.{slot-fits, cap-birth}
 use Rattle.places.proofs.RuleValues.{value-caps}
 use Rattle.places.proofs.RuleBirths.{operation-first, result-turn, operand-turn, successor-turn, region-turn}
+use Rattle.places.proofs.Settling.{settles-same, settles-birth, settles-enter, settles-birth-use, lowest-free}
 use Rattle.places.proofs.RuleGrown.{kept-birth, kept-enter, values-live, values-next, uses-live, uses-next, regions-live, regions-next, same-ended, results-long, operands-long, successors-long, regions-long, value-kept, block-kept}
 use Rattle.context.specs.declared.Layout.{Layout}
 use Rattle.context.specs.Layout.{capOf, ncOf}
@@ -120,6 +122,7 @@ module _ {l : Layout} {m : List ℕ} (S : SoundStore l m) (sl : Slot) (o i d : �
             rest = B .rest;
             caps = λ j. ap (λ (Q : State). Q .tab j .cap) born ∙ use-caps j;
             view = B .view ∙ ap₂ (λ (x y : Con). nBirthUse (namedC P x) i (namedC P y) (view P)) s-is k-is ∙ ap (λ (n : ℕ). nBirthUse (slotRole sl, (op, num P (op, o))) i (defRole sl, (defKind sl, n)) (view P)) (p-is .1);
+            places = λ from s₀. subst (Settles from) (sym born) (settles-birth-use (slotRole sl, (op, o)) i (defRole sl, (defKind sl, p)) (l .uses) u s₀ (lowest-free P usg u (B .dead) (B .lowest)));
             kept = rw born kept-use;
           }
         where
@@ -237,6 +240,7 @@ module _ {l : Layout} {m : List ℕ} (fs : List ℕ) (r a s g o : ℕ) (R : Oper
             sound = B .sound;
             rest = B .rest ∙ M .rest;
             accepts = rw (part-more fs 5 i (omega (arith, full, h)), sym t-is) (result-turn Q (stateOf l m₂) L (gone l m) caps (getD fs 0 0) ts vs bs n (M .accepts) t i (omega (arith, long-ts)) seen);
+            places = subst (Settles P₀) (sym born) (settles-enter (results, (op, o)) i (val, q) (settles-birth (val, q) t (M .places) (lowest-free Q val q (B .dead) (B .lowest))));
             live = kept .0;
             number = kept .1 ∙ M .number;
           }
@@ -259,6 +263,7 @@ module _ {l : Layout} {m : List ℕ} (fs : List ℕ) (r a s g o : ℕ) (R : Oper
             sound = U .sound;
             rest = U .rest ∙ M .rest;
             accepts = rw (part-more fs (5 + r + a) k (omega (arith, full, h)), sym d-is) (successor-turn Q (stateOf l m₂) L (gone l m) (U .caps) (getD fs 0 0) ts vs bs n (M .accepts) d k (omega (arith, long-bs)) (M .sound .sound .linked) (U .view ∙ ap (λ (y : ℕ). nBirthUse (slotRole successor, (op, y)) k (defRole successor, (defKind successor, d)) (view Q)) (M .number)));
+            places = U .places P₀ (M .places);
             live = U .kept .0;
             number = U .kept .1 ∙ M .number;
           }
@@ -269,6 +274,7 @@ module _ {l : Layout} {m : List ℕ} (fs : List ℕ) (r a s g o : ℕ) (R : Oper
             sound = U .sound;
             rest = U .rest ∙ M .rest;
             accepts = rw (no-blocks, part-more fs (5 + r) j (omega (arith, full, h)), sym d-is) (operand-turn Q (stateOf l m₂) L (gone l m) (U .caps) (getD fs 0 0) ts vs n (rw no-blocks at (M .accepts)) d j (omega (arith, long-vs)) (M .sound .sound .linked) (U .view ∙ ap (λ (y : ℕ). nBirthUse (slotRole operand, (op, y)) j (defRole operand, (defKind operand, d)) (view Q)) (M .number)));
+            places = U .places P₀ (M .places);
             live = U .kept .0;
             number = U .kept .1 ∙ M .number;
           }
@@ -282,6 +288,7 @@ module _ {l : Layout} {m : List ℕ} (fs : List ℕ) (r a s g o : ℕ) (R : Oper
             sound = B .sound;
             rest = B .rest ∙ M .rest;
             accepts = rw (add-one n) (region-turn Q (stateOf l m₂) L (gone l m) caps (getD fs 0 0) ts vs bs n (M .accepts) (l .regions) (omega (arith, h, R .places reg)) seen);
+            places = subst (Settles P₀) (sym (B .state)) (settles-enter (regions, (op, o)) (l .regions) (reg, p) (settles-birth (reg, p) 0 (M .places) (lowest-free Q reg p (B .dead) (B .lowest))));
             live = kept .0;
             number = kept .1 ∙ M .number;
           }
@@ -409,6 +416,7 @@ module _ {l : Layout} {m : List ℕ} (fs : List ℕ) (r a s g : ℕ) (R : Operat
               sound = B .sound;
               rest = B .rest;
               accepts = rw (part-none fs 5, part-none fs (5 + r), part-none fs (5 + r + a), sym f-is) (operation-first (gone l m) (λ k. ap (λ (Q : State). Q .tab k .cap) (B .state) ∙ cap-birth (stateOf l m) (op, o) f k) f (ap view (B .state) ∙ see-birth (stateOf l m) (R .sound .sound .linked) (op, o) f fresh));
+              places = subst (Settles (stateOf l m)) (sym (B .state)) (settles-birth (op, o) f (settles-same (λ k. refl)) (lowest-free (stateOf l m) op o (B .dead) (B .lowest)));
               live = rw (B .state) (omega (arith, alive-born (stateOf l m) (op, o) f));
               number = ap (λ (Q : State). num Q (op, o)) (B .state) ∙ num-new (stateOf l m) (R .sound .sound .linked) (op, o) f fresh;
             });
@@ -421,7 +429,7 @@ module _ {l : Layout} {m : List ℕ} (fs : List ℕ) (r a s g : ℕ) (R : Operat
   unfolding answer abs
   operation-done {m′} o j x e A free F X =
       rw (is-operation (R .sound) fs F r a s g (R .counts))
-      (accepts (grown fs r a r a s g) (M .sound) (ap (refusal-of (meaning (stateOf l m))) (sym (is-operation (R .sound) fs F r a s g (R .counts))) ∙ free) state-is (M .rest) x 0 (ap (λ (n : ℕ). found n 0) (born-is (R .sound .sound) op ∙ sym (X .is))))
+      (accepts (grown fs r a r a s g) (M .sound) (ap (refusal-of (meaning (stateOf l m))) (sym (is-operation (R .sound) fs F r a s g (R .counts))) ∙ free) state-is (M .rest) (M .places) x 0 (ap (λ (n : ℕ). found n 0) (born-is (R .sound .sound) op ∙ sym (X .is))))
     where
       M : Made l (grown fs r a r a s g) op o m m′
       M = recount fs r a o (least r j) (least a (j - r)) (least s (j - r - a)) (j - r - a - s) r a s g (omega (arith, e)) (omega (arith, e)) (omega (arith, e)) (omega (arith, e)) (A .made)

@@ -13,6 +13,7 @@ use Rattle.places.specs.View.{num, view}
 use Rattle.places.specs.Edits.{nBirthUse}
 use Rattle.places.specs.Roles.{Unnamed, slotRole, defRole, defKind}
 use Rattle.places.specs.Accepts.{Accepts}
+use Rattle.places.specs.Settled.{Settles}
 use Rattle.context.specs.declared.Layout.{Layout}
 use Rattle.context.specs.Memory as M
 use Rattle.context.specs.Memory.{stateOf, SoundStore}
@@ -28,6 +29,8 @@ pub record Made (l : Layout) (e : Edit) (k : Kind) (p : ℕ) (m m′ : List ℕ)
   pub sound : SoundStore l m′
   pub rest : M.part l m′ 14 ≡ M.part l m 14
   pub accepts : Accepts (stateOf l m) (stateOf l m′) e (gone l m) (gone l m)
+  -- what lives on keeps its place, and births take the lowest free places
+  pub places : Settles (stateOf l m) (stateOf l m′)
   pub live : Live (stateOf l m′) (k, p)
   pub number : num (stateOf l m′) (k, p) ≡ stateOf l m .tab k .next
 
@@ -74,6 +77,8 @@ pub record Used (l : Layout) (sl : Slot) (o i d : ℕ) (m m′ : List ℕ) : Typ
   pub rest : M.part l m′ 14 ≡ M.part l m 14
   pub caps : (k : Kind) → stateOf l m′ .tab k .cap ≡ stateOf l m .tab k .cap
   pub view : view (stateOf l m′) ≡ nBirthUse (slotRole sl, (op, num (stateOf l m) (op, o))) i (defRole sl, (defKind sl, d)) (view (stateOf l m))
+  -- the use took the lowest free place
+  pub places : (from : State) → Settles from (stateOf l m) → Settles from (stateOf l m′)
   pub kept : Live (stateOf l m′) (op, o) × (num (stateOf l m′) (op, o) ≡ num (stateOf l m) (op, o))
 
 -- the counts of the record's lists

@@ -12,7 +12,8 @@ use Rattle.places.specs.Store.{Kind, op, blk, reg, val, usg, Thing, State, Live
 use Rattle.places.specs.View.{num, view}
 use Rattle.places.specs.Hist.{hist, ruleState, meaning, thing-named, theThing}
 use Rattle.places.specs.Alias.{RThing, RState}
-use Rattle.places.specs.Walk.{dropList, dropped}
+use Rattle.places.specs.Walk.{among, dropList, dropped}
+use Rattle.places.specs.Settled.{Settles}
 use Rattle.edit.specs.Record.{Edit, drop-uses, the-operation, the-block, the-region}
 use Rattle.edit.specs.Answer.{Reply, refuse, found, numbers-of}
 use Rattle.edit.specs.declared.Answer.{Answer}
@@ -27,6 +28,7 @@ use Rattle.places.proofs.Nest.{kindCode, walk-ops}
 use Rattle.places.proofs.Bits.{bit-false, bit-eqb}
 use Rattle.places.specs.Roles.{Unnamed}
 use Rattle.places.proofs.RuleNames.{operation-live, operation-dead, block-live, block-dead, region-live, region-dead}
+use Rattle.places.proofs.Settling.{settles-same, settles-cut}
 use Rattle.places.proofs.Meaning.{drop-meaning, drop-reply}
 use Rattle.context.specs.declared.Layout.{Layout}
 use Rattle.context.specs.Memory.{part, stateOf, SoundStore, Finds}
@@ -59,20 +61,27 @@ refused {l} {m} S e n h =
       sound = S;
       reply = ap (λ (p : Reply × RState). p .0) (sym (perform-no (abs l m) e n h));
       state = ap (λ (p : Reply × RState). p .1) (sym (perform-no (abs l m) e n h));
+      places = settles-same (λ k. refl);
       kept = λ _. refl;
       rest = refl;
     }
 
-pub accepted : {l : Layout} {m m′ : List ℕ} (e : Edit) (r : Answer) → SoundStore l m′ → refusal-of (abs l m) e ≡ 0 → part l m′ 14 ≡ part l m 14
+pub accepted : {l : Layout} {m m′ : List ℕ} (e : Edit) (r : Answer) → SoundStore l m′ → refusal-of (abs l m) e ≡ 0 → part l m′ 14 ≡ part l m 14 → Settles (stateOf l m) (stateOf l m′)
     → abs l m′ ≡ accept e (abs l m) → answer e (abs l m) (abs l m′ .history) ≡ numbers-of r → Performed l e m m′ r
-accepted {l} {m} {m′} e r S h rest after reply =
+accepted {l} {m} {m′} e r S h rest settled after reply =
     record {
       sound = S;
       reply = sym reply ∙ ap (λ (s : RState). answer e (abs l m) (s .history)) after ∙ ap (λ (p : Reply × RState). p .0) (sym (perform-yes (abs l m) e h));
       state = after ∙ ap (λ (p : Reply × RState). p .1) (sym (perform-yes (abs l m) e h));
+      places = settled;
       kept = λ n. absurd (n h);
       rest = rest;
     }
+
+-- the uses inside x ended, and nothing else
+pub settles-dropped : (P : State) (x : Thing) {Q : State} → Q ≡ dropped P x → Settles P Q
+unfolding dropped
+settles-dropped P x e = subst (Settles P) (sym e) (settles-cut (among (dropList P x)) P)
 
 -- ---- one name
 
@@ -164,7 +173,7 @@ module _ {l : Layout} {m : List ℕ} (S : SoundStore l m) where
         subst (λ (i : ℕ). Performed l (drop-uses (thing-named k i)) m m′ (Accepted 0 (r .ended))) (live-at P k n p a F e .1)
         (accepted (drop-uses (theThing P (k, p))) (Accepted 0 (r .ended)) (D .store)
         (passes (drop-uses (theThing P (k, p))) (k, p) (num P (k, p)) h (live-at P k n p a F e .0) refl refl)
-        (D .rest)
+        (D .rest) (settles-dropped P (k, p) (D .state))
         (ap meaning (D .state) ∙ drop-meaning (S .sound) (k, p) (live-at P k n p a F e .0) h)
         (ap (λ (Q : State). answer (drop-uses (theThing P (k, p))) (meaning P) (meaning Q .history)) (D .state) ∙ drop-reply (S .sound) (k, p) (live-at P k n p a F e .0) h ∙ ap (found 0) counted))
       where

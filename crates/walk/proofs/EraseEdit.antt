@@ -12,6 +12,7 @@ use Rattle.places.specs.Parts.{rowsOf}
 use Rattle.places.specs.View.{num}
 use Rattle.places.specs.Hist.{meaning}
 use Rattle.places.specs.Alias.{RState}
+use Rattle.places.specs.Settled.{Settles}
 use Rattle.places.specs.Walk.{pick, gather, cutBy, cutAll, among, kids, walkBy, walk, valuesAt, dropList, dropped, innards, erased, strays, straysIn}
 use Rattle.edit.specs.Record.{Edit, erase-operation, erase-block, erase-region}
 use Rattle.edit.specs.Answer.{found, numbers-of}
@@ -23,7 +24,8 @@ use Rattle.rules.specs.Refusal as R
 use Rattle.rules.specs.Step.{answer}
 use Rattle.places.proofs.Placing.{isUse}
 use Rattle.places.proofs.Climb.{opsOf}
-use Rattle.places.proofs.Cut.{zero-or, count-sift-0}
+use Rattle.places.proofs.Cut.{zero-or, count-sift-0, cut-append}
+use Rattle.places.proofs.Settling.{settles-cut}
 use Rattle.places.proofs.Nest.{kindCode, gather-on}
 use Rattle.places.proofs.DropAll.{drop-uses}
 use Rattle.places.proofs.DropTurn.{kids-blk, list-kept, walk-kept}
@@ -50,6 +52,11 @@ use Rattle.walk.proofs.EraseWalk.{code≤}
 pub done-meaning : (P : State) (x : Thing) {Q : State} → Q ≡ cutAll (innards P x) (dropped P x) → meaning Q ≡ meaning (erased P x)
 unfolding erased
 done-meaning P x e = ap meaning e
+
+-- two cuts, one after the other, are one
+pub settles-erased : (P : State) (x : Thing) {Q : State} → Q ≡ cutAll (innards P x) (dropped P x) → Settles P Q
+unfolding dropped
+settles-erased P x e = subst (Settles P) (sym (e ∙ cut-append (dropList P x) (innards P x) P)) (settles-cut (among (dropList P x ++ innards P x)) P)
 
 -- ---- the depth of 13
 
@@ -87,7 +94,7 @@ done-performed : (l : Layout) (m m′ : List ℕ) (e : Edit) (x : Thing) (r : An
     → Performed l e m m′ r
 unfolding abs numbers-of
 done-performed l m m′ e x r asked E after reply =
-    accepted e r (E .store) asked (E .rest) (done-meaning (stateOf l m) x (E .state) ∙ after)
+    accepted e r (E .store) asked (E .rest) (settles-erased (stateOf l m) x (E .state)) (done-meaning (stateOf l m) x (E .state) ∙ after)
     (ap (λ (s : RState). answer e (meaning (stateOf l m)) (s .history)) (done-meaning (stateOf l m) x (E .state))
     ∙ reply
     ∙ ap (λ (n : ℕ). found n (length (dropList (stateOf l m) x))) (sym (operations-are (stateOf l m) x))

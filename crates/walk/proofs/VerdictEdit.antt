@@ -23,6 +23,7 @@ use Rattle.rules.specs.Step.{answer}
 use Rattle.places.proofs.Cut.{Closed, cut-nothing}
 use Rattle.places.proofs.Nest.{kindCode}
 use Rattle.places.proofs.DropTurn.{append-nil}
+use Rattle.places.proofs.Settling.{settles-same}
 use Rattle.places.proofs.RuleTables.{flags-cut, types-cut}
 use Rattle.places.proofs.VerdictWalk.{verdictAt}
 use Rattle.places.proofs.TopRefusals.{verdict-refusal, verdict-answer}
@@ -93,8 +94,8 @@ module _ {l : Layout} {m : List ℕ} (S : SoundStore l m) where
 
     judged : (r : Answer) → numbers-of r ≡ verdictAt P (length (P .tab op .order)) x → Performed l v m m r
     unfolding numbers-of found refuse
-    judged (Accepted a b) e = accepted v (Accepted a b) S (asked ∙ ap (λ (q : Reply). q .refusal) (sym e)) refl after (replied ∙ sym e)
-    judged (Refused zero) e = accepted v (Refused zero) S (asked ∙ ap (λ (q : Reply). q .refusal) (sym e)) refl after (replied ∙ sym e)
+    judged (Accepted a b) e = accepted v (Accepted a b) S (asked ∙ ap (λ (q : Reply). q .refusal) (sym e)) refl (settles-same (λ k. refl)) after (replied ∙ sym e)
+    judged (Refused zero) e = accepted v (Refused zero) S (asked ∙ ap (λ (q : Reply). q .refusal) (sym e)) refl (settles-same (λ k. refl)) after (replied ∙ sym e)
     judged (Refused (suc n)) e = refused S v n (asked ∙ ap (λ (q : Reply). q .refusal) (sym e))
 
     pub did-judge : (n : ℕ) (r : Answer) → num P x ≡ n → numbers-of r ≡ verdictAt P (length (P .tab op .order)) x → Performed l (verdict (thing-named (x .0) n)) m m r

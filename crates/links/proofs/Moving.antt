@@ -18,6 +18,7 @@ use Rattle.rules.specs.Refusal.{region-named, operation-named, named, missing, 
 use Rattle.places.specs.Store.{Fam, op, reg, usg, regions, regs, holderOf, Thing, Thing-dec, Con, State, Live, Linked, Sound, relink, enter, leave}
 use Rattle.places.specs.View.{num}
 use Rattle.places.specs.Hist.{ruleState, meaning}
+use Rattle.places.specs.Settled.{Settles}
 use Rattle.places.specs.Parts.{conOf, rowsOf}
 use Rattle.places.specs.Walk.{pick, walk}
 use Rattle.places.specs.Members.{moveRegion, moveCode, position}
@@ -28,6 +29,7 @@ use Rattle.places.proofs.RuleRefusals.{operation-there, operation-missing, regi
 use Rattle.places.proofs.RuleLinks.{split-at}
 use Rattle.places.proofs.RuleLinkTests.{walk-clear}
 use Rattle.places.proofs.RuleMove.{moved-sound, move-accept, stay-accept, move-code}
+use Rattle.places.proofs.Settling.{settles-same, settles-relink, settles-enter}
 use Rattle.context.specs.declared.Layout.{Layout}
 use Rattle.context.specs.Layout.{nnOf}
 use Rattle.context.specs.Memory.{part, decode, con, stateOf, Well, SoundStore, HomeIs, LengthIs, Left, Entered, Stands, Finds}
@@ -310,7 +312,7 @@ module _ {l : Layout} {m : List ℕ} (S : SoundStore l m) (x y : ℕ) (t : Teste
 
 module _ {l : Layout} {m m′ : List ℕ} (S : SoundStore l m) (x y n k : ℕ) (M : Moving l x y n k m) (K : HandedOver l n k m m′) where
   pub moved-region : Performed l (move-region x y) m m′ (Accepted 0 0)
-  unfolding answer abs moveCode rowsOf
+  unfolding answer abs moveCode moveRegion rowsOf
   moved-region = by-cases (ℕ-discrete k (r .0)) stay go
     where
       r : (j : ℕ) × (stateOf l m .own (reg, n) regs ≡ some (regions, (op, j)))
@@ -322,7 +324,7 @@ module _ {l : Layout} {m m′ : List ℕ} (S : SoundStore l m) (x y n k : ℕ) (
           let s : m′ ≡ m = K .stays a in
           carried-out S (move-region x y) (subst (λ (v : List ℕ). SoundStore l v) (sym s) S) (M .none) (λ h. refl)
           (ap (λ (v : List ℕ). meaning (stateOf l v)) s ∙ stay-accept (S .sound) n k k a ∙ ap₂ (λ (a b : ℕ). accept (move-region a b) (meaning (stateOf l m))) (M .named) (M .called))
-          (ap (λ (v : List ℕ). part l v 14) s)
+          (ap (λ (v : List ℕ). part l v 14) s) (settles-same (λ i. ap (λ (v : List ℕ). stateOf l v .tab i) s))
 
       go : k ≢ r .0 → Performed l (move-region x y) m m′ (Accepted 0 0)
       go d =
@@ -338,3 +340,4 @@ module _ {l : Layout} {m m′ : List ℕ} (S : SoundStore l m) (x y n k : ℕ) (
           carried-out S (move-region x y) (record { well = K .well (r .0) (r .1) d; sound = subst (λ (Q : State). Sound Q) (sym e) (moved-sound (S .sound) n (r .0) k (r .1) (l .regions) (M .home) d room clear fits) }) (M .none) (λ h. refl)
           (ap meaning e ∙ move-accept (S .sound) n (r .0) k (r .1) (l .regions) (M .home) d room clear fits ∙ ap₂ (λ (a b : ℕ). accept (move-region a b) (meaning (stateOf l m))) (M .named) (M .called))
           (K .rest (r .0) (r .1) d)
+          (subst (λ (Q : State). Settles (stateOf l m) Q) (sym e) (settles-enter (regions, (op, k)) (l .regions) (reg, n) (settles-relink (regions, (op, r .0)) (swapOut Thing-dec (reg, n) (stateOf l m .list (op, r .0) regions)) (reg, n) none (settles-same (λ i. refl)))))

@@ -19,12 +19,14 @@ use Rattle.rules.specs.Refusal.{member-named, named, refusal-of}
 use Rattle.places.specs.Store.{Kind, Fam, fam, nodeOf, Limited, Thing, Thing-dec, Con, State, Live, Sound, enter, leave}
 use Rattle.places.specs.View.{num}
 use Rattle.places.specs.Hist.{meaning}
+use Rattle.places.specs.Settled.{Settles}
 use Rattle.places.specs.Parts.{nodeIn}
 use Rattle.places.specs.Members.{roleOf, memberAt, containerAt, listAt, homeOf, heldCode, position}
 use Rattle.places.proofs.Steps.{CanEnter, once}
 use Rattle.places.specs.Roles.{Unnamed}
 use Rattle.places.proofs.RuleLinks.{split-at, linked-sound, unlinked-sound, front-accept, back-accept, after-accept, before-accept, unlink-accept}
 use Rattle.places.proofs.RuleLinkTests.{unlink-code}
+use Rattle.places.proofs.Settling.{settles-same, settles-enter, settles-leave}
 use Rattle.context.specs.declared.Layout.{Layout}
 use Rattle.context.specs.Layout.{ncOf, nnOf, famOf, famPart, sizes}
 use Rattle.context.specs.Memory.{part, partsOf, con, stateOf, Well, SoundStore, HomeIs, Entered, Left, Stands}
@@ -43,9 +45,9 @@ module _ {l : Layout} {m : List ℕ} (S : SoundStore l m) (e : Edit) where
   unfolding abs
   refused t h r = refuses e S t r (λ z. absurd (omega (arith, h, z)))
 
-  pub carried-out : {m′ : List ℕ} → SoundStore l m′ → refusal-of (abs l m) e ≡ 0 → ((k : History) → answer e (abs l m) k ≡ clean) → abs l m′ ≡ accept e (abs l m) → part l m′ 14 ≡ part l m 14 → Performed l e m m′ (Accepted 0 0)
+  pub carried-out : {m′ : List ℕ} → SoundStore l m′ → refusal-of (abs l m) e ≡ 0 → ((k : History) → answer e (abs l m) k ≡ clean) → abs l m′ ≡ accept e (abs l m) → part l m′ 14 ≡ part l m 14 → Settles (stateOf l m) (stateOf l m′) → Performed l e m m′ (Accepted 0 0)
   unfolding abs found clean
-  carried-out S′ r a s rest = accepts e S′ r s rest 0 0 (a (accept e (abs l m) .history))
+  carried-out S′ r a s rest places = accepts e S′ r s rest places 0 0 (a (accept e (abs l m) .history))
 
 -- a list has no more nodes than there are
 pub list-short : {l : Layout} {m : List ℕ} → Well l m → (f : Fam) (k : ℕ) → k < ncOf l f → length (listOf l m (con l f k)) ≤ nnOf l f
@@ -76,6 +78,9 @@ module _ {l : Layout} {m : List ℕ} (S : SoundStore l m) (w : ℕ) (w≤ : w �
     unfolding abs
     now-abs e a = ap meaning E ∙ a
 
+    now-places : Settles P (stateOf l m′)
+    now-places = subst (λ (Q : State). Settles P Q) (sym E) (settles-enter (listAt W c) i (memberAt W n) (settles-same (λ k. refl)))
+
   state-of : {m′ : List ℕ} (n c i : ℕ) → Entered l (famOf (4 + w)) c i n m m′ → stateOf l m′ ≡ enter (listAt W c) i (memberAt W n) P
   state-of n c i E = E .state ∙ ap₂ (λ (d : Con) (k : Kind). enter d i (k, n) P) (list-is w w≤ l c) (node-is w w≤)
 
@@ -85,7 +90,7 @@ module _ {l : Layout} {m : List ℕ} (S : SoundStore l m) (w : ℕ) (w≤ : w �
     front-done {m′} E =
         carried-out S (link-front W x y) (now-sound m′ x n c 0 (T .may) (state-of n c 0 E) (E .well)) (T .none .first) (λ k. refl)
         (now-abs m′ x n c 0 (T .may) (state-of n c 0 E) (link-front W x y) (front-accept (S .sound) W c n (can-enter (T .may)) ∙ ap₂ (λ (a b : ℕ). accept (link-front W a b) (meaning P)) (T .may .named) (T .container)))
-        (E .rest)
+        (E .rest) (now-places m′ x n c 0 (T .may) (state-of n c 0 E))
 
     pub back-done : {m′ : List ℕ} → Entered l (famOf (4 + w)) c (nnOf l (famOf (4 + w))) n m m′ → Performed l (link-back W x y) m m′ (Accepted 0 0)
     unfolding answer
@@ -95,7 +100,7 @@ module _ {l : Layout} {m : List ℕ} (S : SoundStore l m) (w : ℕ) (w≤ : w �
         (now-abs m′ x n c i (T .may) (state-of n c i E) (link-back W x y)
         (back-accept (S .sound) W c n i (can-enter (T .may)) (subst (λ (d : Con). length (P .list (d .1) (d .0)) ≤ i) (list-is w w≤ l c) (list-short (S .well) (famOf (4 + w)) c (container< w w≤ l S c (T .may .home))))
         ∙ ap₂ (λ (a b : ℕ). accept (link-back W a b) (meaning P)) (T .may .named) (T .container)))
-        (E .rest)
+        (E .rest) (now-places m′ x n c i (T .may) (state-of n c i E))
 
   module _ (x y n k : ℕ) (T : Beside l W x y n k m) where
     abbrev c : ℕ
@@ -123,7 +128,7 @@ module _ {l : Layout} {m : List ℕ} (S : SoundStore l m) (w : ℕ) (w≤ : w �
         let s : stateOf l m′ ≡ enter (listAt W c) (suc i) (memberAt W n) P = beside-state 1 E ∙ ap (λ (j : ℕ). enter (listAt W c) j (memberAt W n) P) z in
         carried-out S (link-after W x y) (now-sound m′ x n c (suc i) (T .may) s (E .well)) (T .none .first) (λ k. refl)
         (now-abs m′ x n c (suc i) (T .may) s (link-after W x y) (after-accept (S .sound) W c n k (T .there) (can-enter (T .may)) ∙ ap₂ (λ (a b : ℕ). accept (link-after W a b) (meaning P)) (T .may .named) (T .mark)))
-        (E .rest)
+        (E .rest) (now-places m′ x n c (suc i) (T .may) s)
 
     pub before-done : {m′ : List ℕ} → EnteredBy l (famOf (4 + w)) k n 0 m m′ → Performed l (link-before W x y) m m′ (Accepted 0 0)
     unfolding answer
@@ -133,7 +138,7 @@ module _ {l : Layout} {m : List ℕ} (S : SoundStore l m) (w : ℕ) (w≤ : w �
         let s : stateOf l m′ ≡ enter (listAt W c) i (memberAt W n) P = beside-state 0 E ∙ ap (λ (j : ℕ). enter (listAt W c) j (memberAt W n) P) z in
         carried-out S (link-before W x y) (now-sound m′ x n c i (T .may) s (E .well)) (T .none .second) (λ k. refl)
         (now-abs m′ x n c i (T .may) s (link-before W x y) (before-accept (S .sound) W c n k (T .there) (can-enter (T .may)) ∙ ap₂ (λ (a b : ℕ). accept (link-before W a b) (meaning P)) (T .may .named) (T .mark)))
-        (E .rest)
+        (E .rest) (now-places m′ x n c i (T .may) s)
 
   -- ---- unlink
 
@@ -160,7 +165,7 @@ module _ {l : Layout} {m : List ℕ} (S : SoundStore l m) (w : ℕ) (w≤ : w �
           (λ a. L .state (listAt W c) a) there in
           carried-out S (unlink W x) (record { well = L .well; sound = subst (λ (Q : State). Sound Q) (sym s) (unlinked-sound (S .sound) W c n there) }) (unlink-tests ∙ linked-15 w w≤ n h H 0 16 d) (λ k. refl)
           (ap meaning s ∙ unlink-accept (S .sound) W c n there ∙ ap (λ (a : ℕ). accept (unlink W a) (meaning P)) (at .1))
-          (L .rest)
+          (L .rest) (subst (λ (Q : State). Settles P Q) (sym s) (settles-leave (listAt W c) (memberAt W n) (settles-same (λ k. refl))))
 
 -- ---- what the tests hand on
 

@@ -1,6 +1,6 @@
 //! Cuts the published files by item, as CUTS.tsv says, into OUT_DIR. Nothing published is kept in this repository but the header lines by which items are found.
 //! The published files are in the folder that PLIRON names (it has src/value.rs and its like). A header that is not found, or an item that stands on other lines
-//! than CUTS.tsv says, ends the build. With the feature `store` it links the static library that RECIPE_LIB names; with `faults` it writes the faulty readings.
+//! than CUTS.tsv says, ends the build. With the feature `faults` it writes the faulty readings.
 use std::{
     env, fs,
     path::{Path, PathBuf},
@@ -88,7 +88,6 @@ fn faults(here: &Path, out: &Path) -> String {
 
 fn main() {
     println!("cargo:rerun-if-env-changed=PLIRON");
-    println!("cargo:rerun-if-env-changed=RECIPE_LIB");
     let here = PathBuf::from(env::var("CARGO_MANIFEST_DIR").unwrap());
     let out = PathBuf::from(env::var("OUT_DIR").unwrap());
     let published = PathBuf::from(env::var("PLIRON").expect("PLIRON names the folder of the published files"));
@@ -103,13 +102,5 @@ fn main() {
     fs::write(out.join("published.rs"), modules).unwrap();
     if env::var("CARGO_FEATURE_FAULTS").is_ok() {
         fs::write(out.join("faults.rs"), faults(&here, &out)).unwrap();
-    }
-    if env::var("CARGO_FEATURE_STORE").is_ok() {
-        let library = PathBuf::from(env::var("RECIPE_LIB").expect("RECIPE_LIB names the library, a file lib*.a, or lib*.so for mutate_store.sh"));
-        let kind = if library.extension().is_some_and(|e| e == "so") { "dylib" } else { "static" };
-        println!("cargo:rerun-if-changed={}", library.display());
-        let name = library.file_stem().unwrap().to_str().unwrap().strip_prefix("lib").expect("a file lib*");
-        println!("cargo:rustc-link-search=native={}", library.parent().unwrap().display());
-        println!("cargo:rustc-link-lib={kind}={name}");
     }
 }

@@ -35,6 +35,9 @@ mod library {
 
 use crate::{Answer, Use};
 
+/// No count that the library gives: it writes its own over it in every call.
+const NOT_WRITTEN: u64 = u64::MAX;
+
 /// The words that a store of these capacities needs; 0 where one is 0 or over its limit.
 pub fn words([ops, blocks, regions, values, uses]: [u32; 5]) -> usize {
     // SAFETY: numbers alone go in and come out.
@@ -56,7 +59,7 @@ pub fn edit(store: &mut [u32], scratch: &mut [u32], record: &[u8], answer: &mut 
 
 /// A script: 0 or the 6 or 22 that ended it, and how many answers were written, three words for each.
 pub fn script(store: &mut [u32], scratch: &mut [u32], script: &[u8], answers: &mut [u32]) -> (u32, u64) {
-    let mut count = 0;
+    let mut count = NOT_WRITTEN;
     let (scratch_at, answers_at) = (scratch.as_mut_ptr(), answers.as_mut_ptr());
     // SAFETY: as for `edit`; `count` is a local of its own.
     let code = unsafe {
@@ -73,7 +76,7 @@ pub fn check(store: &[u32]) -> bool {
 
 /// The uses of a value, rising: 0, 6, 10 or 22, and the count that the library gave.
 pub fn value_uses(store: &[u32], value: u32, uses: &mut [u32]) -> (u32, u64) {
-    let mut count = 0;
+    let mut count = NOT_WRITTEN;
     // SAFETY: each pointer has the length of its slice; `uses` is borrowed mutably and so apart from the store.
     let code = unsafe { library::recipe_value_uses(store.as_ptr(), store.len(), value, uses.as_mut_ptr(), uses.len(), &mut count) };
     (code, count)
@@ -81,7 +84,7 @@ pub fn value_uses(store: &[u32], value: u32, uses: &mut [u32]) -> (u32, u64) {
 
 /// The uses of a block, rising: 0, 6, 8 or 22, and the count that the library gave.
 pub fn block_uses(store: &[u32], block: u32, uses: &mut [u32]) -> (u32, u64) {
-    let mut count = 0;
+    let mut count = NOT_WRITTEN;
     // SAFETY: as for `value_uses`.
     let code = unsafe { library::recipe_block_uses(store.as_ptr(), store.len(), block, uses.as_mut_ptr(), uses.len(), &mut count) };
     (code, count)

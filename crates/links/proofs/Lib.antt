@@ -3,5 +3,4 @@ pub mod Stepping
 pub mod Sorts
 pub mod Testing
 pub mod Performing
-pub mod Gap
 pub mod Moving

@@ -16,7 +16,7 @@ use Rattle.rules.specs.History.{History}
 use Rattle.rules.specs.State.{accept}
 use Rattle.rules.specs.Step.{answer}
 use Rattle.rules.specs.Refusal.{member-named, named, refusal-of}
-use Rattle.places.specs.Store.{Kind, Fam, fam, nodeOf, Limited, Thing, Thing-dec, Con, State, Live, Sound, enter, leave}
+use Rattle.places.specs.Store.{Kind, Fam, fam, nodeOf, Limited, Thing, Thing-dec, Con, State, Live, enter, leave}
 use Rattle.places.specs.View.{num}
 use Rattle.places.specs.Hist.{meaning}
 use Rattle.places.specs.Settled.{Settles}
@@ -24,20 +24,22 @@ use Rattle.places.specs.Parts.{nodeIn}
 use Rattle.places.specs.Members.{roleOf, memberAt, containerAt, listAt, homeOf, heldCode, position}
 use Rattle.places.proofs.Steps.{CanEnter, once}
 use Rattle.places.specs.Roles.{Unnamed}
-use Rattle.places.proofs.RuleLinks.{split-at, linked-sound, unlinked-sound, front-accept, back-accept, after-accept, before-accept, unlink-accept}
+use Rattle.places.proofs.RuleLinks.{split-at, front-accept, back-accept, after-accept, before-accept, unlink-accept}
 use Rattle.places.proofs.RuleLinkTests.{unlink-code}
 use Rattle.places.proofs.Settling.{settles-same, settles-enter, settles-leave}
 use Rattle.context.specs.declared.Layout.{Layout}
 use Rattle.context.specs.Layout.{ncOf, nnOf, famOf, famPart, sizes}
-use Rattle.context.specs.Memory.{part, partsOf, con, stateOf, Well, SoundStore, HomeIs, Entered, Left, Stands}
-use Rattle.context.specs.Reading.{listOf, EnteredBy}
+use Rattle.context.specs.Memory.{part, partsOf, con, stateOf, Well, SoundStore, HomeIs}
+use Rattle.context.specs.Reading.{listOf}
+use Rattle.context.specs.Steps as steps
+use Rattle.context.specs.Steps.{CanLinkTo, LinkedTo, CanLinkBy, LinkedBy, Unlinked}
 use Rattle.context.specs.Performed.{abs, Performed}
 use Rattle.context.proofs.Families.{list-at}
 use Rattle.context.proofs.Performing.{refuses, accepts}
 use Rattle.links.specs.Tests.{memberOf, missingCode, MayEnter, Refuses, Entering, Beside, EnterTested, BesideTested}
 use Rattle.links.specs.declared.Tested.{Tested}
 use Rattle.links.specs.declared.Tested.the-variants.{No, Yes}
-use Rattle.links.proofs.Sorts.{by-sort, list-is, node-is, member<, container<, home-at, own-free, stands-at}
+use Rattle.links.proofs.Sorts.{list-is, node-is, own-is, member<, container<, home-at, may-link, can-link, can-stand}
 use Rattle.links.proofs.Testing.{linked-15, linked-none, only-gone, only-there, is-there, not-there, missing-pos}
 
 module _ {l : Layout} {m : List ℕ} (S : SoundStore l m) (e : Edit) where
@@ -69,38 +71,29 @@ module _ {l : Layout} {m : List ℕ} (S : SoundStore l m) (w : ℕ) (w≤ : w �
   abbrev W : Member
   W = memberOf w
 
-  -- the store after a member came to stand at index i of the container at c
-  module _ (m′ : List ℕ) (x n c i : ℕ) (M : MayEnter P W x n c) (E : stateOf l m′ ≡ enter (listAt W c) i (memberAt W n) P) where
-    now-sound : Well l m′ → SoundStore l m′
-    now-sound Y = record { well = Y; sound = subst (λ (Q : State). Sound Q) (sym E) (linked-sound (S .sound) W c n i (can-enter M)) }
+  -- a member came to stand at index i of the container at c
+  put-in : {m′ : List ℕ} (e : Edit) (n c i : ℕ) → SoundStore l m′ → part l m′ 14 ≡ part l m 14 → stateOf l m′ ≡ enter (listAt W c) i (memberAt W n) P → refusal-of (abs l m) e ≡ 0 → ((k : History) → answer e (abs l m) k ≡ clean)
+      → meaning (enter (listAt W c) i (memberAt W n) P) ≡ accept e (meaning P) → Performed l e m m′ (Accepted 0 0)
+  unfolding abs
+  put-in e n c i S′ rest s r a done = carried-out S e S′ r a (ap meaning s ∙ done) rest (subst (λ (Q : State). Settles P Q) (sym s) (settles-enter (listAt W c) i (memberAt W n) (settles-same (λ k. refl))))
 
-    now-abs : (e : Edit) → meaning (enter (listAt W c) i (memberAt W n) P) ≡ accept e (meaning P) → abs l m′ ≡ accept e (abs l m)
-    unfolding abs
-    now-abs e a = ap meaning E ∙ a
-
-    now-places : Settles P (stateOf l m′)
-    now-places = subst (λ (Q : State). Settles P Q) (sym E) (settles-enter (listAt W c) i (memberAt W n) (settles-same (λ k. refl)))
-
-  state-of : {m′ : List ℕ} (n c i : ℕ) → Entered l (famOf (4 + w)) c i n m m′ → stateOf l m′ ≡ enter (listAt W c) i (memberAt W n) P
+  state-of : {m′ : List ℕ} (n c i : ℕ) → LinkedTo l (famOf (4 + w)) c i n m m′ → stateOf l m′ ≡ enter (listAt W c) i (memberAt W n) P
   state-of n c i E = E .state ∙ ap₂ (λ (d : Con) (k : Kind). enter d i (k, n) P) (list-is w w≤ l c) (node-is w w≤)
 
   module _ (x y n c : ℕ) (T : Entering l W x y n c m) where
-    pub front-done : {m′ : List ℕ} → Entered l (famOf (4 + w)) c 0 n m m′ → Performed l (link-front W x y) m m′ (Accepted 0 0)
+    pub front-done : {m′ : List ℕ} → LinkedTo l (famOf (4 + w)) c 0 n m m′ → Performed l (link-front W x y) m m′ (Accepted 0 0)
     unfolding answer
-    front-done {m′} E =
-        carried-out S (link-front W x y) (now-sound m′ x n c 0 (T .may) (state-of n c 0 E) (E .well)) (T .none .first) (λ k. refl)
-        (now-abs m′ x n c 0 (T .may) (state-of n c 0 E) (link-front W x y) (front-accept (S .sound) W c n (can-enter (T .may)) ∙ ap₂ (λ (a b : ℕ). accept (link-front W a b) (meaning P)) (T .may .named) (T .container)))
-        (E .rest) (now-places m′ x n c 0 (T .may) (state-of n c 0 E))
+    front-done E =
+        put-in (link-front W x y) n c 0 (E .sound) (E .rest) (state-of n c 0 E) (T .none .first) (λ k. refl)
+        (front-accept (S .sound) W c n (can-enter (T .may)) ∙ ap₂ (λ (a b : ℕ). accept (link-front W a b) (meaning P)) (T .may .named) (T .container))
 
-    pub back-done : {m′ : List ℕ} → Entered l (famOf (4 + w)) c (nnOf l (famOf (4 + w))) n m m′ → Performed l (link-back W x y) m m′ (Accepted 0 0)
+    pub back-done : {m′ : List ℕ} → LinkedTo l (famOf (4 + w)) c (nnOf l (famOf (4 + w))) n m m′ → Performed l (link-back W x y) m m′ (Accepted 0 0)
     unfolding answer
-    back-done {m′} E =
+    back-done E =
         let i : ℕ = nnOf l (famOf (4 + w)) in
-        carried-out S (link-back W x y) (now-sound m′ x n c i (T .may) (state-of n c i E) (E .well)) (T .none .second) (λ k. refl)
-        (now-abs m′ x n c i (T .may) (state-of n c i E) (link-back W x y)
+        put-in (link-back W x y) n c i (E .sound) (E .rest) (state-of n c i E) (T .none .second) (λ k. refl)
         (back-accept (S .sound) W c n i (can-enter (T .may)) (subst (λ (d : Con). length (P .list (d .1) (d .0)) ≤ i) (list-is w w≤ l c) (list-short (S .well) (famOf (4 + w)) c (container< w w≤ l S c (T .may .home))))
-        ∙ ap₂ (λ (a b : ℕ). accept (link-back W a b) (meaning P)) (T .may .named) (T .container)))
-        (E .rest) (now-places m′ x n c i (T .may) (state-of n c i E))
+        ∙ ap₂ (λ (a b : ℕ). accept (link-back W a b) (meaning P)) (T .may .named) (T .container))
 
   module _ (x y n k : ℕ) (T : Beside l W x y n k m) where
     abbrev c : ℕ
@@ -112,33 +105,29 @@ module _ {l : Layout} {m : List ℕ} (S : SoundStore l m) (w : ℕ) (w≤ : w �
     cut : (a : List Thing) × (b : List Thing) × (rows ≡ a ++ memberAt W k ∷ b) × (length a ≡ position Thing-dec (memberAt W k) rows)
     cut = split-at Thing-dec (memberAt W k) rows (omega (arith, once (S .sound .linked) (memberAt W k) (fam (roleOf W)) (listAt W c) (T .there)))
 
-    beside-state : {m′ : List ℕ} (d : ℕ) → EnteredBy l (famOf (4 + w)) k n d m m′ → stateOf l m′ ≡ enter (listAt W c) (position Thing-dec (memberAt W k) rows + d) (memberAt W n) P
+    beside-state : {m′ : List ℕ} (d : ℕ) → LinkedBy l (famOf (4 + w)) k n d m m′ → stateOf l m′ ≡ enter (listAt W c) (position Thing-dec (memberAt W k) rows + d) (memberAt W n) P
     unfolding cut
     beside-state {m′} d E =
-        by-sort (λ v. (stateOf l m .own (nodeIn (famOf (4 + v)), k) (famOf (4 + v)) ≡ some (listAt W c) → listOf l m (listAt W c) ≡ cut .0 ++ (nodeIn (famOf (4 + v)), k) ∷ cut .1 → stateOf l m′ ≡ enter (listAt W c) (length (cut .0) + d) (nodeIn (famOf (4 + v)), n) P)
-        → homeOf P (memberOf v) k ≡ some (listAt W c) → rows ≡ cut .0 ++ memberAt (memberOf v) k ∷ cut .1 → stateOf l m′ ≡ enter (listAt W c) (length (cut .0) + d) (memberAt (memberOf v) n) P) w w≤ (λ f a b. f a b) (λ f a b. f a b)
-        (λ a b. E .state (listAt W c) a (cut .0) (cut .1) b) (T .there) (cut .2)
-        ∙ ap (λ (i : ℕ). enter (listAt W c) (i + d) (memberAt W n) P) (cut .3)
+        E .state (listAt W c) (own-is w w≤ l m k ∙ T .there) (cut .0) (cut .1) (cut .2 ∙ ap (λ (j : Kind). cut .0 ++ (j, k) ∷ cut .1) (sym (node-is w w≤)))
+        ∙ ap₂ (λ (i : ℕ) (j : Kind). enter (listAt W c) (i + d) (j, n) P) (cut .3) (node-is w w≤)
 
-    pub after-done : {m′ : List ℕ} → EnteredBy l (famOf (4 + w)) k n 1 m m′ → Performed l (link-after W x y) m m′ (Accepted 0 0)
+    pub after-done : {m′ : List ℕ} → LinkedBy l (famOf (4 + w)) k n 1 m m′ → Performed l (link-after W x y) m m′ (Accepted 0 0)
     unfolding answer
     after-done {m′} E =
         let i : ℕ = position Thing-dec (memberAt W k) rows in
         let z : i + 1 ≡ suc i = omega arith in
         let s : stateOf l m′ ≡ enter (listAt W c) (suc i) (memberAt W n) P = beside-state 1 E ∙ ap (λ (j : ℕ). enter (listAt W c) j (memberAt W n) P) z in
-        carried-out S (link-after W x y) (now-sound m′ x n c (suc i) (T .may) s (E .well)) (T .none .first) (λ k. refl)
-        (now-abs m′ x n c (suc i) (T .may) s (link-after W x y) (after-accept (S .sound) W c n k (T .there) (can-enter (T .may)) ∙ ap₂ (λ (a b : ℕ). accept (link-after W a b) (meaning P)) (T .may .named) (T .mark)))
-        (E .rest) (now-places m′ x n c (suc i) (T .may) s)
+        put-in (link-after W x y) n c (suc i) (E .sound) (E .rest) s (T .none .first) (λ k. refl)
+        (after-accept (S .sound) W c n k (T .there) (can-enter (T .may)) ∙ ap₂ (λ (a b : ℕ). accept (link-after W a b) (meaning P)) (T .may .named) (T .mark))
 
-    pub before-done : {m′ : List ℕ} → EnteredBy l (famOf (4 + w)) k n 0 m m′ → Performed l (link-before W x y) m m′ (Accepted 0 0)
+    pub before-done : {m′ : List ℕ} → LinkedBy l (famOf (4 + w)) k n 0 m m′ → Performed l (link-before W x y) m m′ (Accepted 0 0)
     unfolding answer
     before-done {m′} E =
         let i : ℕ = position Thing-dec (memberAt W k) rows in
         let z : i + 0 ≡ i = omega arith in
         let s : stateOf l m′ ≡ enter (listAt W c) i (memberAt W n) P = beside-state 0 E ∙ ap (λ (j : ℕ). enter (listAt W c) j (memberAt W n) P) z in
-        carried-out S (link-before W x y) (now-sound m′ x n c i (T .may) s (E .well)) (T .none .second) (λ k. refl)
-        (now-abs m′ x n c i (T .may) s (link-before W x y) (before-accept (S .sound) W c n k (T .there) (can-enter (T .may)) ∙ ap₂ (λ (a b : ℕ). accept (link-before W a b) (meaning P)) (T .may .named) (T .mark)))
-        (E .rest) (now-places m′ x n c i (T .may) s)
+        put-in (link-before W x y) n c i (E .sound) (E .rest) s (T .none .second) (λ k. refl)
+        (before-accept (S .sound) W c n k (T .there) (can-enter (T .may)) ∙ ap₂ (λ (a b : ℕ). accept (link-before W a b) (meaning P)) (T .may .named) (T .mark))
 
   -- ---- unlink
 
@@ -155,15 +144,13 @@ module _ {l : Layout} {m : List ℕ} (S : SoundStore l m) (w : ℕ) (w≤ : w �
       pub unlink-16 : h ≡ 0 → refusal-of (abs l m) (unlink W x) ≡ 16
       unlink-16 z = unlink-tests ∙ linked-none w w≤ n h H 0 16 z
 
-      pub unlink-done : {m′ : List ℕ} → h ≢ 0 → Left l (famOf (4 + w)) n m m′ → Performed l (unlink W x) m m′ (Accepted 0 0)
+      pub unlink-done : {m′ : List ℕ} → h ≢ 0 → Unlinked l (famOf (4 + w)) n m m′ → Performed l (unlink W x) m m′ (Accepted 0 0)
       unfolding answer abs
       unlink-done {m′} d L =
           let c : ℕ = h - 1 in
           let there : homeOf P W n ≡ some (listAt W c) = home-at w w≤ l n h H d in
-          let s : stateOf l m′ ≡ leave (listAt W c) (memberAt W n) P =
-          by-sort (λ v. (stateOf l m .own (nodeIn (famOf (4 + v)), n) (famOf (4 + v)) ≡ some (listAt W c) → stateOf l m′ ≡ leave (listAt W c) (nodeIn (famOf (4 + v)), n) P) → homeOf P (memberOf v) n ≡ some (listAt W c) → stateOf l m′ ≡ leave (listAt W c) (memberAt (memberOf v) n) P) w w≤ (λ f a. f a) (λ f a. f a)
-          (λ a. L .state (listAt W c) a) there in
-          carried-out S (unlink W x) (record { well = L .well; sound = subst (λ (Q : State). Sound Q) (sym s) (unlinked-sound (S .sound) W c n there) }) (unlink-tests ∙ linked-15 w w≤ n h H 0 16 d) (λ k. refl)
+          let s : stateOf l m′ ≡ leave (listAt W c) (memberAt W n) P = L .state (listAt W c) (own-is w w≤ l m n ∙ there) ∙ ap (λ (j : Kind). leave (listAt W c) (j, n) P) (node-is w w≤) in
+          carried-out S (unlink W x) (L .sound) (unlink-tests ∙ linked-15 w w≤ n h H 0 16 d) (λ k. refl)
           (ap meaning s ∙ unlink-accept (S .sound) W c n there ∙ ap (λ (a : ℕ). accept (unlink W a) (meaning P)) (at .1))
           (L .rest) (subst (λ (Q : State). Settles P Q) (sym s) (settles-leave (listAt W c) (memberAt W n) (settles-same (λ k. refl))))
 
@@ -178,9 +165,9 @@ module _ {l : Layout} {m : List ℕ} (S : SoundStore l m) (w : ℕ) (w≤ : w �
     pub entering-at : (n c : ℕ) → t ≡ Yes n c → Entering l (memberOf w) x y n c m
     entering-at n c e = subst (λ (z : Tested). EnterTested l (memberOf w) x y m z) e T
 
-    pub enter-asked : (n c : ℕ) → t ≡ Yes n c → Well l m × (((c < ncOf l (famOf (4 + w))) × (n < nnOf l (famOf (4 + w)))) × (stateOf l m .own (nodeIn (famOf (4 + w)), n) (famOf (4 + w)) ≡ none))
+    pub enter-asked : (n c : ℕ) → t ≡ Yes n c → SoundStore l m × (steps.Member (famOf (4 + w)) × (((c < ncOf l (famOf (4 + w))) × (n < nnOf l (famOf (4 + w)))) × CanLinkTo (stateOf l m) (famOf (4 + w)) n (con l (famOf (4 + w)) c)))
     enter-asked n c e = let E : Entering l (memberOf w) x y n c m = entering-at n c e in
-        (S .well, ((container< w w≤ l S c (E .may .home), member< w w≤ l S n (E .may .live)), own-free w w≤ l m n (E .may .free)))
+        (S, (may-link w w≤, ((container< w w≤ l S c (E .may .home), member< w w≤ l S n (E .may .live)), can-link w w≤ l m x n c (E .may))))
 
   module _ (T : BesideTested l (memberOf w) x y m t) where
     pub beside-refused : (r : ℕ) → t ≡ No r → Performed l (link-after (memberOf w) x y) m m (Refused r) × Performed l (link-before (memberOf w) x y) m m (Refused r)
@@ -190,6 +177,6 @@ module _ {l : Layout} {m : List ℕ} (S : SoundStore l m) (w : ℕ) (w≤ : w �
     pub beside-at : (n k : ℕ) → t ≡ Yes n k → Beside l (memberOf w) x y n k m
     beside-at n k e = subst (λ (z : Tested). BesideTested l (memberOf w) x y m z) e T
 
-    pub beside-asked : (n k : ℕ) → t ≡ Yes n k → Well l m × (Stands (stateOf l m) (nodeIn (famOf (4 + w)), k) (famOf (4 + w)) × ((n < nnOf l (famOf (4 + w))) × (stateOf l m .own (nodeIn (famOf (4 + w)), n) (famOf (4 + w)) ≡ none)))
+    pub beside-asked : (n k : ℕ) → t ≡ Yes n k → SoundStore l m × (steps.Member (famOf (4 + w)) × ((n < nnOf l (famOf (4 + w))) × CanLinkBy (stateOf l m) (famOf (4 + w)) k n))
     beside-asked n k e = let E : Beside l (memberOf w) x y n k m = beside-at n k e in
-        (S .well, (stands-at w w≤ l m k (listAt (memberOf w) (E .container)) (E .there), (member< w w≤ l S n (E .may .live), own-free w w≤ l m n (E .may .free))))
+        (S, (may-link w w≤, (member< w w≤ l S n (E .may .live), can-stand w w≤ l m x n k (E .container) (E .may) (E .there))))

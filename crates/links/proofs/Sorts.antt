@@ -1,24 +1,24 @@
 -- The codes 0 and 1 of the two sorts of members: what they are to families, kinds, look-ups and homes. Assumes nothing.
-use mathlib.Core.Path.{_≡_, refl, sym, ap, _∙_, subst}
+use mathlib.Core.Path.{_≡_, refl, sym, ap, ap₂, _∙_, subst}
 use mathlib.Core.Logic.{_≢_}
 use mathlib.Core.List.{List}
-use mathlib.Core.Option.{Option, none, some}
+use mathlib.Core.Option.{none, some}
 use native.Mathlib.Omega.{arith}
 use Prim.Native.Nat.{ℕ, zero, suc, _+_, _-_, _<_, _≤_}
 use Rattle.bits.specs.declared.Found.{Found}
 use Rattle.bits.specs.declared.Found.the-variants.{At, Nothing}
-use Rattle.edit.specs.Record.{Member, operation, block}
-use Rattle.places.specs.Store.{Kind, op, blk, reg, Fam, opsIn, blocksIn, fam, nodeOf, holderOf, Thing, Con, State, Live}
+use Rattle.places.specs.Store.{Kind, op, blk, reg, Fam, fam, nodeOf, holderOf, Con, State, Live}
 use Rattle.places.specs.View.{num}
 use Rattle.places.specs.Parts.{nodeIn, conOf, rowsOf}
 use Rattle.places.specs.Members.{roleOf, memberAt, containerAt, listAt, homeOf}
 use Rattle.places.specs.Roles.{Unnamed}
 use Rattle.context.specs.declared.Layout.{Layout}
 use Rattle.context.specs.Layout.{ncOf, nnOf, famOf, kindOf}
-use Rattle.context.specs.Memory.{decode, con, stateOf, SoundStore, Finds, HomeIs, Entered, Left, Stands}
-use Rattle.context.specs.Reading.{EnteredBy}
+use Rattle.context.specs.Memory.{decode, con, stateOf, SoundStore, Finds, HomeIs, Stands}
+use Rattle.context.specs.Steps as steps
+use Rattle.context.specs.Steps.{CanLinkTo, CanLinkBy}
 use Rattle.context.proofs.Places.{place<}
-use Rattle.links.specs.Tests.{memberOf}
+use Rattle.links.specs.Tests.{memberOf, MayEnter}
 
 -- what holds of the two codes holds of all up to 1
 pub by-sort : (A : ℕ → Type 0) (w : ℕ) → w ≤ 1 → A 0 → A 1 → A w
@@ -38,6 +38,9 @@ module _ (w : ℕ) (w≤ : w ≤ 1) where
 
   pub kind-above : kindOf (w + 1) ≡ holderOf (roleOf (memberOf w))
   kind-above = by-sort (λ v. kindOf (v + 1) ≡ holderOf (roleOf (memberOf v))) w w≤ refl refl
+
+  pub may-link : steps.Member (famOf (4 + w))
+  may-link = by-sort (λ v. steps.Member (famOf (4 + v))) w w≤ steps.operations steps.blocks
 
   module _ (l : Layout) where
     pub list-is : (k : ℕ) → con l (famOf (4 + w)) k ≡ listAt (memberOf w) k
@@ -62,12 +65,21 @@ module _ (w : ℕ) (w≤ : w ≤ 1) where
     pub home-at : {m : List ℕ} (n r : ℕ) → HomeIs l (famOf (4 + w)) n m r → r ≢ 0 → homeOf (stateOf l m) (memberOf w) n ≡ some (listAt (memberOf w) (r - 1))
     home-at n r H d = let e : r ≡ suc (r - 1) = omega (arith, d) in home-is n r H ∙ ap (λ (q : ℕ). conOf (listAt (memberOf w)) (decode q)) e
 
-    -- no list is the code's own
-    pub own-free : (m : List ℕ) (n : ℕ) → homeOf (stateOf l m) (memberOf w) n ≡ none → stateOf l m .own (nodeIn (famOf (4 + w)), n) (famOf (4 + w)) ≡ none
-    own-free m n = by-sort (λ v. homeOf (stateOf l m) (memberOf v) n ≡ none → stateOf l m .own (nodeIn (famOf (4 + v)), n) (famOf (4 + v)) ≡ none) w w≤ (λ e. e) (λ e. e)
+    -- the list of a member is what its family holds for it
+    pub own-is : (m : List ℕ) (n : ℕ) → stateOf l m .own (nodeIn (famOf (4 + w)), n) (famOf (4 + w)) ≡ homeOf (stateOf l m) (memberOf w) n
+    own-is m n = ap₂ (λ (k : Kind) (f : Fam). stateOf l m .own (k, n) f) node-is family-is
 
     pub stands-at : (m : List ℕ) (n : ℕ) (c : Con) → homeOf (stateOf l m) (memberOf w) n ≡ some c → Stands (stateOf l m) (nodeIn (famOf (4 + w)), n) (famOf (4 + w))
-    stands-at m n c = by-sort (λ v. homeOf (stateOf l m) (memberOf v) n ≡ some c → Stands (stateOf l m) (nodeIn (famOf (4 + v)), n) (famOf (4 + v))) w w≤ (λ e. record { list = c; there = e }) (λ e. record { list = c; there = e })
+    stands-at m n c e = record { list = c; there = own-is m n ∙ e }
+
+    -- what may enter can be linked
+    pub can-link : (m : List ℕ) (x n c : ℕ) → MayEnter (stateOf l m) (memberOf w) x n c → CanLinkTo (stateOf l m) (famOf (4 + w)) n (con l (famOf (4 + w)) c)
+    unfolding rowsOf
+    can-link m x n c = by-sort (λ v. MayEnter (stateOf l m) (memberOf v) x n c → CanLinkTo (stateOf l m) (famOf (4 + v)) n (con l (famOf (4 + v)) c)) w w≤
+        (λ M. record { live = M .live; home = M .home; free = M .free; clear = M .clear }) (λ M. record { live = M .live; home = M .home; free = M .free; clear = M .clear })
+
+    pub can-stand : (m : List ℕ) (x n k c : ℕ) → MayEnter (stateOf l m) (memberOf w) x n c → homeOf (stateOf l m) (memberOf w) k ≡ some (listAt (memberOf w) c) → CanLinkBy (stateOf l m) (famOf (4 + w)) k n
+    can-stand m x n k c M e = record { list = con l (famOf (4 + w)) c; there = own-is m k ∙ e ∙ ap some (sym (list-is c)); can = can-link m x n c M }
 
   -- the look-ups
   module _ (P : State) (x : ℕ) (a : Found) where

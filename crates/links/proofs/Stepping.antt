@@ -1,16 +1,15 @@
 -- The steps of the climb on the memory, from what the readers say. Assumes nothing.
-use mathlib.Core.Path.{_≡_, refl, sym, ap, _∙_, subst}
+use mathlib.Core.Path.{_≡_, refl, ap, _∙_, subst}
 use mathlib.Core.Logic.{_≢_}
 use mathlib.Core.Bool.{Bool, true, false}
 use mathlib.Core.List.{List}
-use mathlib.Core.Option.{Option, none, some}
+use mathlib.Core.Option.{none, some}
 use native.Mathlib.Omega.{arith}
-use native.Mathlib.Numerals.{add-one}
-use Prim.Native.Nat.{ℕ, zero, suc, _+_, _-_, _<_, _≤_}
+use Prim.Native.Nat.{ℕ, suc, _+_, _-_, _<_, _≤_}
 use lib.Dec.{eqb}
 use borrow.Author.Tests.{eqb-true, eqb-false}
 use Rattle.table.specs.Table.{Says}
-use Rattle.places.specs.Store.{op, blk, reg, regions, ops, blocks, Fam, regs, opsIn, blocksIn, Thing, Con, State, Live, up}
+use Rattle.places.specs.Store.{op, blk, reg, regions, ops, blocks, Fam, regs, opsIn, blocksIn, Live, up}
 use Rattle.places.specs.Parts.{nodeIn, conOf, rowsOf}
 use Rattle.context.specs.declared.Layout.{Layout}
 use Rattle.context.specs.Layout.{kindOf}
@@ -34,7 +33,7 @@ module _ {l : Layout} {m : List ℕ} (f : Fam) (n r : ℕ) (H : HomeIs l f n m r
   home-some d = let e : r ≡ suc (r - 1) = omega (arith, d) in H .own ∙ ap (λ (q : ℕ). conOf (con l f) (decode q)) e
 
 module _ {l : Layout} {m : List ℕ} (S : SoundStore l m) where
-  pub parent-live : (r p : ℕ) → HomeIs l regs r m p → p ≢ 0 → Live (stateOf l m) (op, p - 1)
+  parent-live : (r p : ℕ) → HomeIs l regs r m p → p ≢ 0 → Live (stateOf l m) (op, p - 1)
   unfolding rowsOf
   parent-live r p H d = S .sound .linked .link (reg, r) regs (regions, (op, p - 1)) (home-some regs r p H d) .home
 

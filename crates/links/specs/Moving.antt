@@ -1,19 +1,16 @@
--- A region moves to another operation: what its tests say, and what its two halves make of the store.
+-- A region moves to another operation: what its tests say.
 -- Assumes nothing: these are definitions.
 use mathlib.Core.Path.{_≡_}
-use mathlib.Core.Logic.{_≢_}
 use mathlib.Core.List.{List}
-use mathlib.Core.Option.{Option, none, some}
+use mathlib.Core.Option.{some}
 use Prim.Native.Nat.{ℕ, _<_}
-use lib.ListN.{length}
-use Rattle.seqs.specs.Seqs.{swapOut}
 use Rattle.edit.specs.Record.{move-region}
 use Rattle.rules.specs.Refusal.{refusal-of}
-use Rattle.places.specs.Store.{op, reg, regions, regs, Thing, Thing-dec, State, Live, Clear, up, relink}
+use Rattle.places.specs.Store.{op, reg, regions, regs, State, Live}
 use Rattle.places.specs.View.{num}
-use Rattle.places.specs.Members.{moveRegion, moveCode}
+use Rattle.places.specs.Members.{moveCode}
 use Rattle.context.specs.declared.Layout.{Layout}
-use Rattle.context.specs.Memory.{part, stateOf, Well}
+use Rattle.context.specs.Memory.{stateOf}
 use Rattle.context.specs.Performed.{abs}
 use Rattle.links.specs.declared.Tested.{Tested}
 use Rattle.links.specs.declared.Tested.the-variants.{No, Yes}
@@ -34,16 +31,3 @@ pub record Moving (l : Layout) (x y n k : ℕ) (m : List ℕ) : Type 0 where
 abbrev pub MoveTested : Layout → ℕ → ℕ → List ℕ → Tested → Type 0
 MoveTested l x y m (No t) = (0 < t) × (refusal-of (abs l m) (move-region x y) ≡ t)
 MoveTested l x y m (Yes n k) = Moving l x y n k m
-
--- the region at n left its operation, and the last one there took its gap
-pub record TakenOut (l : Layout) (n : ℕ) (m m′ : List ℕ) : Type 0 where
-  pub well : Well l m′
-  pub rest : part l m′ 14 ≡ part l m 14
-  pub state : (q : ℕ) → stateOf l m .own (reg, n) regs ≡ some (regions, (op, q)) → stateOf l m′ ≡ relink (regions, (op, q)) (swapOut Thing-dec (reg, n) (stateOf l m .list (op, q) regions)) (reg, n) none (stateOf l m)
-
--- it came to stand last at the operation at k, if it was not there already
-pub record HandedOver (l : Layout) (n k : ℕ) (m m′ : List ℕ) : Type 0 where
-  pub stays : stateOf l m .own (reg, n) regs ≡ some (regions, (op, k)) → m′ ≡ m
-  pub well : (q : ℕ) → stateOf l m .own (reg, n) regs ≡ some (regions, (op, q)) → k ≢ q → Well l m′
-  pub rest : (q : ℕ) → stateOf l m .own (reg, n) regs ≡ some (regions, (op, q)) → k ≢ q → part l m′ 14 ≡ part l m 14
-  pub state : (q : ℕ) → stateOf l m .own (reg, n) regs ≡ some (regions, (op, q)) → k ≢ q → stateOf l m′ ≡ moveRegion (reg, n) (op, q) (op, k) (l .regions) (stateOf l m)

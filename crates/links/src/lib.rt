@@ -17,7 +17,7 @@ ghost use Rattle.context.specs.Memory.{stateOf, SoundStore};
 ghost use Rattle.context.specs.Performed.{Performed};
 ghost use Rattle.links.specs.Climbing.{climbed, thrice, StepIs};
 ghost use Rattle.links.specs.Tests.{memberOf, missingCode, EnterTested, BesideTested};
-ghost use Rattle.links.specs.Moving.{MayMove, MoveTested, TakenOut, HandedOver};
+ghost use Rattle.links.specs.Moving.{MayMove, MoveTested};
 
 // The tests before an edit: the refusal, or the places of the two things that it names.
 pub enum Tested {
@@ -251,7 +251,7 @@ pub fn link_front(m: &mut [u32], l: Layout, w: usize, x: u32, c: u32) -> Answer
     match t {
         Tested::No(r) => Answer::Refused(r),
         Tested::Yes(n, k) => {
-            context::lists::enter_front(m, l, 4 + w, k, n);
+            context::lists::link_front(m, l, 4 + w, k, n);
             Answer::Accepted(0, 0)
         }
     }
@@ -267,7 +267,7 @@ pub fn link_back(m: &mut [u32], l: Layout, w: usize, x: u32, c: u32) -> Answer
     match t {
         Tested::No(r) => Answer::Refused(r),
         Tested::Yes(n, k) => {
-            context::lists::enter_back(m, l, 4 + w, k, n);
+            context::lists::link_back(m, l, 4 + w, k, n);
             Answer::Accepted(0, 0)
         }
     }
@@ -283,7 +283,7 @@ pub fn link_after(m: &mut [u32], l: Layout, w: usize, x: u32, mark: u32) -> Answ
     match t {
         Tested::No(r) => Answer::Refused(r),
         Tested::Yes(n, k) => {
-            context::lists::enter_after(m, l, 4 + w, k, n);
+            context::lists::link_after(m, l, 4 + w, k, n);
             Answer::Accepted(0, 0)
         }
     }
@@ -299,7 +299,7 @@ pub fn link_before(m: &mut [u32], l: Layout, w: usize, x: u32, mark: u32) -> Ans
     match t {
         Tested::No(r) => Answer::Refused(r),
         Tested::Yes(n, k) => {
-            context::lists::enter_before(m, l, 4 + w, k, n);
+            context::lists::link_before(m, l, 4 + w, k, n);
             Answer::Accepted(0, 0)
         }
     }
@@ -319,7 +319,7 @@ pub fn unlink_from(m: &mut [u32], l: Layout, w: usize, x: u32) -> Answer
     if h == 0 {
         return Answer::Refused(16);
     }
-    context::lists::leave(m, l, 4 + w, n);
+    context::lists::unlink(m, l, 4 + w, n);
     Answer::Accepted(0, 0)
 }
 
@@ -365,38 +365,6 @@ fn test_move(m: &[u32], l: Layout, r: u32, o: u32) -> Tested
     Tested::Yes(n, k)
 }
 
-// The region at `n` leaves its operation, and the last region there takes its gap.
-fn take_out(m: &mut [u32], l: Layout, n: usize)
-    requires { ⌜ SoundStore l (now m) ⌝ }
-    requires { ⌜ Live (stateOf l (now m)) (reg, n) ⌝ }
-    ensures { λ _. ⌜ TakenOut l n (now (m .entry)) (now (m .exit)) ⌝ }
-{
-    let p = context::home_of(m, l, 3, n);
-    let last = context::last_of(m, l, 3, p - 1);
-    if last == n + 1 {
-        context::lists::leave(m, l, 3, n);
-        return;
-    }
-    context::lists::leave(m, l, 3, last - 1);
-    context::lists::enter_before(m, l, 3, n, last - 1);
-    context::lists::leave(m, l, 3, n);
-}
-
-// The region at `n` comes to stand last at the operation at `k`, if it is not there already.
-fn hand_over(m: &mut [u32], l: Layout, n: usize, k: usize)
-    requires { ⌜ SoundStore l (now m) ⌝ }
-    requires { ⌜ Live (stateOf l (now m)) (reg, n) ⌝ }
-    requires { ⌜ Live (stateOf l (now m)) (op, k) ⌝ }
-    ensures { λ _. ⌜ HandedOver l n k (now (m .entry)) (now (m .exit)) ⌝ }
-{
-    let p = context::home_of(m, l, 3, n);
-    if p == k + 1 {
-        return;
-    }
-    take_out(m, l, n);
-    context::lists::enter_back(m, l, 3, k, n);
-}
-
 // Edit 31: the region `r` moves to the operation `o`. Refused: 9, 7, 17, 19; to its own operation nothing changes.
 pub fn move_region(m: &mut [u32], l: Layout, r: u32, o: u32) -> Answer
     requires { ⌜ SoundStore l (now m) ⌝ }
@@ -406,7 +374,11 @@ pub fn move_region(m: &mut [u32], l: Layout, r: u32, o: u32) -> Answer
     match t {
         Tested::No(x) => Answer::Refused(x),
         Tested::Yes(n, k) => {
-            hand_over(m, l, n, k);
+            let p = context::home_of(m, l, 3, n);
+            if p == k + 1 {
+                return Answer::Accepted(0, 0);
+            }
+            context::region::move_region(m, l, n, k);
             Answer::Accepted(0, 0)
         }
     }

@@ -4,7 +4,7 @@ use Rattle.links.proofs.link_after.Statement.{statement}
 use Rattle.links.proofs.link_after.Tie as tie
 use Rattle.links.proofs.link_after.Reads as reads
 use Rattle.links.proofs.link_after.Lts as lts
-use Rattle.context.proofs.lists.enter_after.Reads as enter-after-reads
+use Rattle.context.proofs.lists.link_after.Reads as link-after-reads
 use Rattle.links.proofs.test_beside.Reads as test-beside-reads
 
 test-beside-requires : tie.Need-test-beside-requires
@@ -16,11 +16,11 @@ enum-known-t c = search needs
 enum-known-t-2 : tie.Need-enum-known-t-2
 enum-known-t-2 c = search needs
 
-add-enter-after : tie.Need-add-enter-after
-add-enter-after c = search needs
+add-link-after : tie.Need-add-link-after
+add-link-after c = search needs
 
-enter-after-requires : tie.Need-enter-after-requires
-enter-after-requires c κs = let s = c .before .before .before .before .before .before .before in beside-asked (s .pre .0) (s .args .w) (s .pre .1) (s .args .x) (s .args .mark) (c .before .before .before .before .test-beside .result) (c .before .before .before .before .test-beside .ensures) (c .before .before .t2 .given .0 .0) (c .before .before .t2 .given .0 .1 .0) (c .before .before .t2 .given .1)
+link-after-requires : tie.Need-link-after-requires
+link-after-requires c κs = let s = c .before .before .before .before .before .before .before in beside-asked (s .pre .0) (s .args .w) (s .pre .1) (s .args .x) (s .args .mark) (c .before .before .before .before .test-beside .result) (c .before .before .before .before .test-beside .ensures) (c .before .before .t2 .given .0 .0) (c .before .before .t2 .given .0 .1 .0) (c .before .before .t2 .given .1)
 
 same-length : tie.Need-same-length
 same-length c = search needs
@@ -32,7 +32,7 @@ same-length-2 : tie.Need-same-length-2
 same-length-2 c = search needs
 
 returns-2 : tie.Need-returns-2
-returns-2 c = let s = c .before .before .before .before .before .before .before .before .before .before in after-done (s .pre .0) (s .args .w) (s .pre .1) (s .args .x) (s .args .mark) (c .before .before .before .before .before .t2 .given .0 .0) (c .before .before .before .before .before .t2 .given .0 .1 .0) (beside-at (s .pre .0) (s .args .w) (s .pre .1) (s .args .x) (s .args .mark) (c .before .before .before .before .before .before .before .test-beside .result) (c .before .before .before .before .before .before .before .test-beside .ensures) (c .before .before .before .before .before .t2 .given .0 .0) (c .before .before .before .before .before .t2 .given .0 .1 .0) (c .before .before .before .before .before .t2 .given .1)) (c .before .before .enter-after .ensures)
+returns-2 c = let s = c .before .before .before .before .before .before .before .before .before .before in after-done (s .pre .0) (s .args .w) (s .pre .1) (s .args .x) (s .args .mark) (c .before .before .before .before .before .t2 .given .0 .0) (c .before .before .before .before .before .t2 .given .0 .1 .0) (beside-at (s .pre .0) (s .args .w) (s .pre .1) (s .args .x) (s .args .mark) (c .before .before .before .before .before .before .before .test-beside .result) (c .before .before .before .before .before .before .before .test-beside .ensures) (c .before .before .before .before .before .t2 .given .0 .0) (c .before .before .before .before .before .t2 .given .0 .1 .0) (c .before .before .before .before .before .t2 .given .1)) (c .before .before .link-after .ensures)
 
 pub link-after-spec : {M : Type 1} → statement M
 link-after-spec =
@@ -41,8 +41,8 @@ link-after-spec =
     test-beside-requires
     enum-known-t
     enum-known-t-2
-    add-enter-after
-    enter-after-requires
+    add-link-after
+    link-after-requires
     same-length
     returns
     same-length-2

@@ -4,7 +4,7 @@ use Rattle.links.proofs.link_back.Statement.{statement}
 use Rattle.links.proofs.link_back.Tie as tie
 use Rattle.links.proofs.link_back.Reads as reads
 use Rattle.links.proofs.link_back.Lts as lts
-use Rattle.context.proofs.lists.enter_back.Reads as enter-back-reads
+use Rattle.context.proofs.lists.link_back.Reads as link-back-reads
 use Rattle.links.proofs.test_enter.Reads as test-enter-reads
 
 test-enter-requires : tie.Need-test-enter-requires
@@ -16,11 +16,11 @@ enum-known-t c = search needs
 enum-known-t-2 : tie.Need-enum-known-t-2
 enum-known-t-2 c = search needs
 
-add-enter-back : tie.Need-add-enter-back
-add-enter-back c = search needs
+add-link-back : tie.Need-add-link-back
+add-link-back c = search needs
 
-enter-back-requires : tie.Need-enter-back-requires
-enter-back-requires c κs = let s = c .before .before .before .before .before .before .before in enter-asked (s .pre .0) (s .args .w) (s .pre .1) (s .args .x) (s .args .c) (c .before .before .before .before .test-enter .result) (c .before .before .before .before .test-enter .ensures) (c .before .before .t2 .given .0 .0) (c .before .before .t2 .given .0 .1 .0) (c .before .before .t2 .given .1)
+link-back-requires : tie.Need-link-back-requires
+link-back-requires c κs = let s = c .before .before .before .before .before .before .before in enter-asked (s .pre .0) (s .args .w) (s .pre .1) (s .args .x) (s .args .c) (c .before .before .before .before .test-enter .result) (c .before .before .before .before .test-enter .ensures) (c .before .before .t2 .given .0 .0) (c .before .before .t2 .given .0 .1 .0) (c .before .before .t2 .given .1)
 
 same-length : tie.Need-same-length
 same-length c = search needs
@@ -32,7 +32,7 @@ same-length-2 : tie.Need-same-length-2
 same-length-2 c = search needs
 
 returns-2 : tie.Need-returns-2
-returns-2 c = let s = c .before .before .before .before .before .before .before .before .before .before in back-done (s .pre .0) (s .args .w) (s .pre .1) (s .args .x) (s .args .c) (c .before .before .before .before .before .t2 .given .0 .0) (c .before .before .before .before .before .t2 .given .0 .1 .0) (entering-at (s .pre .0) (s .args .w) (s .pre .1) (s .args .x) (s .args .c) (c .before .before .before .before .before .before .before .test-enter .result) (c .before .before .before .before .before .before .before .test-enter .ensures) (c .before .before .before .before .before .t2 .given .0 .0) (c .before .before .before .before .before .t2 .given .0 .1 .0) (c .before .before .before .before .before .t2 .given .1)) (c .before .before .enter-back .ensures)
+returns-2 c = let s = c .before .before .before .before .before .before .before .before .before .before in back-done (s .pre .0) (s .args .w) (s .pre .1) (s .args .x) (s .args .c) (c .before .before .before .before .before .t2 .given .0 .0) (c .before .before .before .before .before .t2 .given .0 .1 .0) (entering-at (s .pre .0) (s .args .w) (s .pre .1) (s .args .x) (s .args .c) (c .before .before .before .before .before .before .before .test-enter .result) (c .before .before .before .before .before .before .before .test-enter .ensures) (c .before .before .before .before .before .t2 .given .0 .0) (c .before .before .before .before .before .t2 .given .0 .1 .0) (c .before .before .before .before .before .t2 .given .1)) (c .before .before .link-back .ensures)
 
 pub link-back-spec : {M : Type 1} → statement M
 link-back-spec =
@@ -41,8 +41,8 @@ link-back-spec =
     test-enter-requires
     enum-known-t
     enum-known-t-2
-    add-enter-back
-    enter-back-requires
+    add-link-back
+    link-back-requires
     same-length
     returns
     same-length-2

@@ -4,7 +4,7 @@ use Rattle.links.proofs.link_before.Statement.{statement}
 use Rattle.links.proofs.link_before.Tie as tie
 use Rattle.links.proofs.link_before.Reads as reads
 use Rattle.links.proofs.link_before.Lts as lts
-use Rattle.context.proofs.lists.enter_before.Reads as enter-before-reads
+use Rattle.context.proofs.lists.link_before.Reads as link-before-reads
 use Rattle.links.proofs.test_beside.Reads as test-beside-reads
 
 test-beside-requires : tie.Need-test-beside-requires
@@ -16,11 +16,11 @@ enum-known-t c = search needs
 enum-known-t-2 : tie.Need-enum-known-t-2
 enum-known-t-2 c = search needs
 
-add-enter-before : tie.Need-add-enter-before
-add-enter-before c = search needs
+add-link-before : tie.Need-add-link-before
+add-link-before c = search needs
 
-enter-before-requires : tie.Need-enter-before-requires
-enter-before-requires c κs = let s = c .before .before .before .before .before .before .before in beside-asked (s .pre .0) (s .args .w) (s .pre .1) (s .args .x) (s .args .mark) (c .before .before .before .before .test-beside .result) (c .before .before .before .before .test-beside .ensures) (c .before .before .t2 .given .0 .0) (c .before .before .t2 .given .0 .1 .0) (c .before .before .t2 .given .1)
+link-before-requires : tie.Need-link-before-requires
+link-before-requires c κs = let s = c .before .before .before .before .before .before .before in beside-asked (s .pre .0) (s .args .w) (s .pre .1) (s .args .x) (s .args .mark) (c .before .before .before .before .test-beside .result) (c .before .before .before .before .test-beside .ensures) (c .before .before .t2 .given .0 .0) (c .before .before .t2 .given .0 .1 .0) (c .before .before .t2 .given .1)
 
 same-length : tie.Need-same-length
 same-length c = search needs
@@ -32,7 +32,7 @@ same-length-2 : tie.Need-same-length-2
 same-length-2 c = search needs
 
 returns-2 : tie.Need-returns-2
-returns-2 c = let s = c .before .before .before .before .before .before .before .before .before .before in before-done (s .pre .0) (s .args .w) (s .pre .1) (s .args .x) (s .args .mark) (c .before .before .before .before .before .t2 .given .0 .0) (c .before .before .before .before .before .t2 .given .0 .1 .0) (beside-at (s .pre .0) (s .args .w) (s .pre .1) (s .args .x) (s .args .mark) (c .before .before .before .before .before .before .before .test-beside .result) (c .before .before .before .before .before .before .before .test-beside .ensures) (c .before .before .before .before .before .t2 .given .0 .0) (c .before .before .before .before .before .t2 .given .0 .1 .0) (c .before .before .before .before .before .t2 .given .1)) (c .before .before .enter-before .ensures)
+returns-2 c = let s = c .before .before .before .before .before .before .before .before .before .before in before-done (s .pre .0) (s .args .w) (s .pre .1) (s .args .x) (s .args .mark) (c .before .before .before .before .before .t2 .given .0 .0) (c .before .before .before .before .before .t2 .given .0 .1 .0) (beside-at (s .pre .0) (s .args .w) (s .pre .1) (s .args .x) (s .args .mark) (c .before .before .before .before .before .before .before .test-beside .result) (c .before .before .before .before .before .before .before .test-beside .ensures) (c .before .before .before .before .before .t2 .given .0 .0) (c .before .before .before .before .before .t2 .given .0 .1 .0) (c .before .before .before .before .before .t2 .given .1)) (c .before .before .link-before .ensures)
 
 pub link-before-spec : {M : Type 1} → statement M
 link-before-spec =
@@ -41,8 +41,8 @@ link-before-spec =
     test-beside-requires
     enum-known-t
     enum-known-t-2
-    add-enter-before
-    enter-before-requires
+    add-link-before
+    link-before-requires
     same-length
     returns
     same-length-2

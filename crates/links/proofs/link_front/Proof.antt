@@ -4,7 +4,7 @@ use Rattle.links.proofs.link_front.Statement.{statement}
 use Rattle.links.proofs.link_front.Tie as tie
 use Rattle.links.proofs.link_front.Reads as reads
 use Rattle.links.proofs.link_front.Lts as lts
-use Rattle.context.proofs.lists.enter_front.Reads as enter-front-reads
+use Rattle.context.proofs.lists.link_front.Reads as link-front-reads
 use Rattle.links.proofs.test_enter.Reads as test-enter-reads
 
 test-enter-requires : tie.Need-test-enter-requires
@@ -16,11 +16,11 @@ enum-known-t c = search needs
 enum-known-t-2 : tie.Need-enum-known-t-2
 enum-known-t-2 c = search needs
 
-add-enter-front : tie.Need-add-enter-front
-add-enter-front c = search needs
+add-link-front : tie.Need-add-link-front
+add-link-front c = search needs
 
-enter-front-requires : tie.Need-enter-front-requires
-enter-front-requires c κs = let s = c .before .before .before .before .before .before .before in enter-asked (s .pre .0) (s .args .w) (s .pre .1) (s .args .x) (s .args .c) (c .before .before .before .before .test-enter .result) (c .before .before .before .before .test-enter .ensures) (c .before .before .t2 .given .0 .0) (c .before .before .t2 .given .0 .1 .0) (c .before .before .t2 .given .1)
+link-front-requires : tie.Need-link-front-requires
+link-front-requires c κs = let s = c .before .before .before .before .before .before .before in enter-asked (s .pre .0) (s .args .w) (s .pre .1) (s .args .x) (s .args .c) (c .before .before .before .before .test-enter .result) (c .before .before .before .before .test-enter .ensures) (c .before .before .t2 .given .0 .0) (c .before .before .t2 .given .0 .1 .0) (c .before .before .t2 .given .1)
 
 same-length : tie.Need-same-length
 same-length c = search needs
@@ -32,7 +32,7 @@ same-length-2 : tie.Need-same-length-2
 same-length-2 c = search needs
 
 returns-2 : tie.Need-returns-2
-returns-2 c = let s = c .before .before .before .before .before .before .before .before .before .before in front-done (s .pre .0) (s .args .w) (s .pre .1) (s .args .x) (s .args .c) (c .before .before .before .before .before .t2 .given .0 .0) (c .before .before .before .before .before .t2 .given .0 .1 .0) (entering-at (s .pre .0) (s .args .w) (s .pre .1) (s .args .x) (s .args .c) (c .before .before .before .before .before .before .before .test-enter .result) (c .before .before .before .before .before .before .before .test-enter .ensures) (c .before .before .before .before .before .t2 .given .0 .0) (c .before .before .before .before .before .t2 .given .0 .1 .0) (c .before .before .before .before .before .t2 .given .1)) (c .before .before .enter-front .ensures)
+returns-2 c = let s = c .before .before .before .before .before .before .before .before .before .before in front-done (s .pre .0) (s .args .w) (s .pre .1) (s .args .x) (s .args .c) (c .before .before .before .before .before .t2 .given .0 .0) (c .before .before .before .before .before .t2 .given .0 .1 .0) (entering-at (s .pre .0) (s .args .w) (s .pre .1) (s .args .x) (s .args .c) (c .before .before .before .before .before .before .before .test-enter .result) (c .before .before .before .before .before .before .before .test-enter .ensures) (c .before .before .before .before .before .t2 .given .0 .0) (c .before .before .before .before .before .t2 .given .0 .1 .0) (c .before .before .before .before .before .t2 .given .1)) (c .before .before .link-front .ensures)
 
 pub link-front-spec : {M : Type 1} → statement M
 link-front-spec =
@@ -41,8 +41,8 @@ link-front-spec =
     test-enter-requires
     enum-known-t
     enum-known-t-2
-    add-enter-front
-    enter-front-requires
+    add-link-front
+    link-front-requires
     same-length
     returns
     same-length-2

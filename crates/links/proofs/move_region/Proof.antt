@@ -1,10 +1,14 @@
-use Rattle.links.proofs.Moving.{moving-at, move-refused, moved-region}
+use Rattle.links.proofs.Moving.{moving-at, move-refused, move-nothing, may-go, moved-away}
+use Rattle.context.proofs.Places.{place<}
+use Rattle.places.specs.Store.{op, reg}
+use native.Mathlib.Omega.{arith}
 use borrow.Author.Needs.{needs}
 use Rattle.links.proofs.move_region.Statement.{statement}
 use Rattle.links.proofs.move_region.Tie as tie
 use Rattle.links.proofs.move_region.Reads as reads
 use Rattle.links.proofs.move_region.Lts as lts
-use Rattle.links.proofs.hand_over.Reads as hand-over-reads
+use Rattle.context.proofs.home_of.Reads as home-of-reads
+use Rattle.context.proofs.region.move_region.Reads as move-region-reads
 use Rattle.links.proofs.test_move.Reads as test-move-reads
 
 test-move-requires : tie.Need-test-move-requires
@@ -16,20 +20,32 @@ enum-known-t c = search needs
 enum-known-t-2 : tie.Need-enum-known-t-2
 enum-known-t-2 c = search needs
 
-hand-over-requires : tie.Need-hand-over-requires
-hand-over-requires c κs = let s = c .before .before .before .before .before .before .before in let v = moving-at (s .pre) (s .args .r) (s .args .o) (c .before .before .before .before .test-move .result) (c .before .before .before .before .test-move .ensures) (c .before .before .t2 .given .0 .0) (c .before .before .t2 .given .0 .1 .0) (c .before .before .t2 .given .1) in (s .pre, (v .live, v .home))
+home-of-requires : tie.Need-home-of-requires
+home-of-requires c κs = let s = c .before .before .before .before .before .before .before in let v = moving-at (s .pre) (s .args .r) (s .args .o) (c .before .before .before .before .test-move .result) (c .before .before .before .before .test-move .ensures) (c .before .before .t2 .given .0 .0) (c .before .before .t2 .given .0 .1 .0) (c .before .before .t2 .given .1) in (s .pre .well, place< (s .pre) (reg, c .before .before .t2 .given .0 .0) (v .live))
+
+add-if1 : tie.Need-add-if1
+add-if1 c = let s = c .before .before .before .before .before .before .before .before in let v = moving-at (s .pre) (s .args .r) (s .args .o) (c .before .before .before .before .before .test-move .result) (c .before .before .before .before .before .test-move .ensures) (c .before .before .before .t2 .given .0 .0) (c .before .before .before .t2 .given .0 .1 .0) (c .before .before .before .t2 .given .1) in omega (arith, place< (s .pre) (op, c .before .before .before .t2 .given .0 .1 .0) (v .home), s .pre .well .caps .ops)
 
 same-length : tie.Need-same-length
 same-length c = search needs
 
 returns : tie.Need-returns
-returns c = let s = c .before .before .before .before .before .before in move-refused (s .pre) (s .args .r) (s .args .o) (c .before .before .before .test-move .result) (c .before .before .before .test-move .ensures) (c .before .t .given .0 .0) (c .before .t .given .1)
+returns c = let s = c .before .before .before .before .before .before .before .before .before in move-nothing (s .pre) (s .args .r) (s .args .o) (c .before .before .before .before .t2 .given .0 .0) (c .before .before .before .before .t2 .given .0 .1 .0) (moving-at (s .pre) (s .args .r) (s .args .o) (c .before .before .before .before .before .before .test-move .result) (c .before .before .before .before .before .before .test-move .ensures) (c .before .before .before .before .t2 .given .0 .0) (c .before .before .before .before .t2 .given .0 .1 .0) (c .before .before .before .before .t2 .given .1)) (c .before .home-of .result) (c .before .home-of .ensures) (c .if1 .taken)
+
+move-region-requires : tie.Need-move-region-requires
+move-region-requires c κs = let s = c .before .before .before .before .before .before .before .before .before .before in (s .pre, may-go (s .pre) (s .args .r) (s .args .o) (c .before .before .before .before .before .t2 .given .0 .0) (c .before .before .before .before .before .t2 .given .0 .1 .0) (moving-at (s .pre) (s .args .r) (s .args .o) (c .before .before .before .before .before .before .before .test-move .result) (c .before .before .before .before .before .before .before .test-move .ensures) (c .before .before .before .before .before .t2 .given .0 .0) (c .before .before .before .before .before .t2 .given .0 .1 .0) (c .before .before .before .before .before .t2 .given .1)) (c .before .before .home-of .result) (c .before .before .home-of .ensures) (c .before .if1 .left))
 
 same-length-2 : tie.Need-same-length-2
 same-length-2 c = search needs
 
 returns-2 : tie.Need-returns-2
-returns-2 c = let s = c .before .before .before .before .before .before .before .before .before .before in moved-region (s .pre) (s .args .r) (s .args .o) (c .before .before .before .before .before .t2 .given .0 .0) (c .before .before .before .before .before .t2 .given .0 .1 .0) (moving-at (s .pre) (s .args .r) (s .args .o) (c .before .before .before .before .before .before .before .test-move .result) (c .before .before .before .before .before .before .before .test-move .ensures) (c .before .before .before .before .before .t2 .given .0 .0) (c .before .before .before .before .before .t2 .given .0 .1 .0) (c .before .before .before .before .before .t2 .given .1)) (c .before .before .hand-over .ensures)
+returns-2 c = let s = c .before .before .before .before .before .before in move-refused (s .pre) (s .args .r) (s .args .o) (c .before .before .before .test-move .result) (c .before .before .before .test-move .ensures) (c .before .t .given .0 .0) (c .before .t .given .1)
+
+same-length-3 : tie.Need-same-length-3
+same-length-3 c = search needs
+
+returns-3 : tie.Need-returns-3
+returns-3 c = let s = c .before .before .before .before .before .before .before .before .before .before .before .before .before in moved-away (s .pre) (s .args .r) (s .args .o) (c .before .before .before .before .before .before .before .before .t2 .given .0 .0) (c .before .before .before .before .before .before .before .before .t2 .given .0 .1 .0) (moving-at (s .pre) (s .args .r) (s .args .o) (c .before .before .before .before .before .before .before .before .before .before .test-move .result) (c .before .before .before .before .before .before .before .before .before .before .test-move .ensures) (c .before .before .before .before .before .before .before .before .t2 .given .0 .0) (c .before .before .before .before .before .before .before .before .t2 .given .0 .1 .0) (c .before .before .before .before .before .before .before .before .t2 .given .1)) (c .before .before .before .before .before .home-of .result) (c .before .before .before .before .before .home-of .ensures) (c .before .before .before .before .if1 .left) (c .before .before .move-region .ensures)
 
 pub move-region-spec : {M : Type 1} → statement M
 move-region-spec =
@@ -38,8 +54,12 @@ move-region-spec =
     test-move-requires
     enum-known-t
     enum-known-t-2
-    hand-over-requires
+    home-of-requires
+    add-if1
     same-length
     returns
+    move-region-requires
     same-length-2
-    returns-2)
+    returns-2
+    same-length-3
+    returns-3)

@@ -1,6 +1,6 @@
 use Rattle.links.proofs.Performing.{refused, unlink-gone, unlink-16, unlink-done}
 use Rattle.links.proofs.Testing.{missing-some}
-use Rattle.links.proofs.Sorts.{member-at, no-member, member<, home-at, stands-at}
+use Rattle.links.proofs.Sorts.{member-at, no-member, member<, home-at, may-link, stands-at}
 use Rattle.context.specs.Memory.{stateOf}
 use Rattle.links.specs.Tests.{memberOf, missingCode}
 use Rattle.places.specs.Members.{listAt}
@@ -15,7 +15,7 @@ use Rattle.links.proofs.unlink_from.Reads as reads
 use Rattle.links.proofs.unlink_from.Lts as lts
 use Rattle.context.proofs.find.Reads as find-reads
 use Rattle.context.proofs.home_of.Reads as home-of-reads
-use Rattle.context.proofs.lists.leave.Reads as leave-reads
+use Rattle.context.proofs.lists.unlink.Reads as unlink-reads
 use Rattle.links.proofs.missing.Reads as missing-reads
 
 find-requires : tie.Need-find-requires
@@ -48,17 +48,17 @@ same-length-2 c = search needs
 returns-2 : tie.Need-returns-2
 returns-2 c = let s = c .before .before .before .before .before .before .before .before .before in refused (s .pre .0) (unlink (memberOf (s .args .w)) (s .args .x)) 16 (omega arith) (unlink-16 (s .pre .0) (s .args .w) (s .pre .1) (s .args .x) (c .before .before .before .before .a .given .0 .0) (c .before .home-of .result) (member-at (s .args .w) (s .pre .1) (stateOf (s .args .l) (s .args .m .now)) (s .args .x) (c .before .before .before .before .before .before .find .result) (c .before .before .before .before .a .given .0 .0) (c .before .before .before .before .before .before .find .ensures) (c .before .before .before .before .a .given .1)) (c .before .home-of .ensures) (c .if1 .taken))
 
-add-leave : tie.Need-add-leave
-add-leave c = search needs
+add-unlink : tie.Need-add-unlink
+add-unlink c = search needs
 
-leave-requires : tie.Need-leave-requires
-leave-requires c κs = let s = c .before .before .before .before .before .before .before .before .before .before in (s .pre .0 .well, stands-at (s .args .w) (s .pre .1) (s .args .l) (s .args .m .now) (c .before .before .before .before .before .a .given .0 .0) (listAt (memberOf (s .args .w)) (c .before .before .home-of .result - 1)) (home-at (s .args .w) (s .pre .1) (s .args .l) (c .before .before .before .before .before .a .given .0 .0) (c .before .before .home-of .result) (c .before .before .home-of .ensures) (c .before .if1 .left)))
+unlink-requires : tie.Need-unlink-requires
+unlink-requires c κs = let s = c .before .before .before .before .before .before .before .before .before .before in (s .pre .0, (may-link (s .args .w) (s .pre .1), stands-at (s .args .w) (s .pre .1) (s .args .l) (s .args .m .now) (c .before .before .before .before .before .a .given .0 .0) (listAt (memberOf (s .args .w)) (c .before .before .home-of .result - 1)) (home-at (s .args .w) (s .pre .1) (s .args .l) (c .before .before .before .before .before .a .given .0 .0) (c .before .before .home-of .result) (c .before .before .home-of .ensures) (c .before .if1 .left))))
 
 same-length-3 : tie.Need-same-length-3
 same-length-3 c = search needs
 
 returns-3 : tie.Need-returns-3
-returns-3 c = let s = c .before .before .before .before .before .before .before .before .before .before .before .before .before in unlink-done (s .pre .0) (s .args .w) (s .pre .1) (s .args .x) (c .before .before .before .before .before .before .before .before .a .given .0 .0) (c .before .before .before .before .before .home-of .result) (member-at (s .args .w) (s .pre .1) (stateOf (s .args .l) (s .args .m .now)) (s .args .x) (c .before .before .before .before .before .before .before .before .before .before .find .result) (c .before .before .before .before .before .before .before .before .a .given .0 .0) (c .before .before .before .before .before .before .before .before .before .before .find .ensures) (c .before .before .before .before .before .before .before .before .a .given .1)) (c .before .before .before .before .before .home-of .ensures) (c .before .before .before .before .if1 .left) (c .before .before .leave .ensures)
+returns-3 c = let s = c .before .before .before .before .before .before .before .before .before .before .before .before .before in unlink-done (s .pre .0) (s .args .w) (s .pre .1) (s .args .x) (c .before .before .before .before .before .before .before .before .a .given .0 .0) (c .before .before .before .before .before .home-of .result) (member-at (s .args .w) (s .pre .1) (stateOf (s .args .l) (s .args .m .now)) (s .args .x) (c .before .before .before .before .before .before .before .before .before .before .find .result) (c .before .before .before .before .before .before .before .before .a .given .0 .0) (c .before .before .before .before .before .before .before .before .before .before .find .ensures) (c .before .before .before .before .before .before .before .before .a .given .1)) (c .before .before .before .before .before .home-of .ensures) (c .before .before .before .before .if1 .left) (c .before .before .unlink .ensures)
 
 pub unlink-from-spec : {M : Type 1} → statement M
 unlink-from-spec =
@@ -74,7 +74,7 @@ unlink-from-spec =
     home-of-requires
     same-length-2
     returns-2
-    add-leave
-    leave-requires
+    add-unlink
+    unlink-requires
     same-length-3
     returns-3)

@@ -59,3 +59,4 @@ pub mod RuleBirths
 pub mod RuleGrown
 pub mod DefUse
 pub mod Settling
+pub mod Determined

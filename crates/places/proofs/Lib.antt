@@ -60,3 +60,4 @@ pub mod RuleGrown
 pub mod DefUse
 pub mod Settling
 pub mod Determined
+pub mod SameStore

@@ -36,7 +36,7 @@ same-parts (n ∷ ns) m m′ h =
 
 -- ---- from the meaning back to the entries of a table
 
-lookup-none : (a : List (ℕ × ℕ)) (p : ℕ) → count ℕ-discrete p (places a) ≡ 0 → lookup a p ≡ 0
+pub lookup-none : (a : List (ℕ × ℕ)) (p : ℕ) → count ℕ-discrete p (places a) ≡ 0 → lookup a p ≡ 0
 lookup-none [] p h = refl
 lookup-none (e ∷ a) p h = by-cases (ℕ-discrete p (e .1)) (λ q. absurd (omega (arith, h, tick-yes (ℕ-discrete p (e .1)) q))) (λ n. if-neg (ℕ-discrete p (e .1)) n (e .0) (lookup a p) ∙ lookup-none a p (omega (arith, h)))
 
@@ -63,7 +63,7 @@ unmapped k a b e = sym (back a) ∙ ap (map (λ (x : Thing). x .1)) e ∙ back b
     back [] = refl
     back (q ∷ l) = ap {B = List ℕ} (λ r. q ∷ r) (back l)
 
-abbrev Small : List ℕ → Type 0
+abbrev pub Small : List ℕ → Type 0
 Small m = (i : ℕ) → getD m i 0 < 2 ^ 32
 
 small-part : (l : Layout) (m : List ℕ) (k : ℕ) → k < 14 → Small m → Small (part l m k)

@@ -1,12 +1,11 @@
 -- The whole slice is a function of the next number and of the live things: nothing of what was before stays in a free cell.
 -- Assumes nothing.
-use mathlib.Core.Path.{_≡_, refl, sym, ap, ap₂, _∙_, subst}
-use mathlib.Core.Logic.{_⊎_, ⊎-elim}
+use mathlib.Core.Path.{_≡_, sym, ap, ap₂, _∙_, subst}
+use mathlib.Core.Logic.{⊎-elim}
 use mathlib.Core.List.{List, _++_}
 use native.Mathlib.Nat.{eq-zero-or-pos}
-use Prim.Native.Nat.{ℕ, _+_, _-_, _^_, _≤_, _<_}
-use native.Mathlib.Omega.{arith}
-use lib.ListN.{length, getD, take, drop, length-drop, take-append-drop}
+use Prim.Native.Nat.{ℕ, _+_, _-_, _^_, _<_}
+use lib.ListN.{length, getD, length-drop, take-append-drop}
 use lib.Seq.{getD-drop}
 use Rattle.bits.specs.Map.{bit}
 use Rattle.bits.proofs.Digits.{le-or-lt, bits-ext}

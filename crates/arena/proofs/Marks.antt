@@ -1,14 +1,13 @@
 -- The map and the table agree. Assumes nothing.
-use mathlib.Core.Path.{_≡_, refl, sym, ap, ap₂, _∙_, subst}
-use mathlib.Core.Logic.{_⊎_, inl, inr, ⊎-elim}
+use mathlib.Core.Path.{_≡_, refl, sym, ap, ap₂, _∙_}
+use mathlib.Core.Logic.{⊎-elim}
 use mathlib.Core.List.{List}
-use Prim.Native.Nat.{ℕ, zero, suc, _+_, _-_, _≤_, _<_}
-use native.Mathlib.Numerals.{add-one}
+use Prim.Native.Nat.{ℕ, zero, suc, _+_, _-_, _<_}
 use native.Mathlib.Omega.{arith}
 use lib.ListN.{length}
 use Rattle.bits.specs.Map.{bit, lowest, orElse, ifZero, Flipped}
 use Rattle.bits.proofs.Digits.{same?}
-use Rattle.table.specs.Table.{Table, Born, Ended, Started, stamp, next, sign}
+use Rattle.table.specs.Table.{Table, Born, Ended, Started, stamp, sign}
 use Rattle.bits.proofs.Lowest.{Low, lowest-at}
 use Rattle.table.proofs.Quick.{sign-pos}
 use Rattle.arena.specs.Packed.{Packed, Bore, Gone, Fresh, Agree, Spare, front, back, cells, words}

@@ -6,9 +6,8 @@ use native.Mathlib.Decide.{ℕ-discrete}
 use Prim.Native.Nat.{ℕ, _+_, _*_, _/_, _≤_, _<_}
 use lib.ListN.{length, take, drop}
 use Rattle.bits.specs.Map.{bit, lowest}
-use Rattle.bits.specs.declared.Found.{Found}
-use Rattle.bits.specs.declared.Found.the-variants.{At, Nothing}
-use Rattle.table.specs.Table.{Table, next, count, stamp, sign, live, without}
+use Rattle.bits.specs.declared.Found.the-variants.{At}
+use Rattle.table.specs.Table.{Table, next, stamp, sign, live, without}
 use Rattle.seqs.specs.Seqs.{In}
 use Rattle.seqs.specs.Entries.{places}
 

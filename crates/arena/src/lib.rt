@@ -4,7 +4,7 @@
 // context.rs of pliron 0.20.0 (Apache-2.0).
 use bits::Found;
 ghost use mathlib.Core.Path.{_≡_};
-ghost use Prim.Native.Nat.{ℕ, _+_, _-_, _*_, _≤_, _<_};
+ghost use Prim.Native.Nat.{_+_, _-_, _*_, _≤_, _<_};
 ghost use Rattle.arena.specs.Packed.{Packed, Alive, Bore, Gone, Fresh, Agree, Spare, front, cells, words};
 ghost use lib.ListN.{length, getD};
 ghost use Rattle.bits.specs.Map.{lowest};

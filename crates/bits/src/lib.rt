@@ -1,10 +1,9 @@
 // An occupancy map in one lent slice: place p is bit p % 64 of the 64-bit word p / 64. A word is two numbers of 32 bits, the low half
 // first, so that p is also bit p % 32 of the number p / 32. A set bit says that the place is taken.
 ghost use mathlib.Core.Path.{_≡_};
-ghost use mathlib.Core.Bool.{Bool, true, false};
-ghost use Prim.Native.Nat.{ℕ, _+_, _-_, _*_, _/_, _%_, _≤_, _<_};
+ghost use Prim.Native.Nat.{_+_, _*_, _/_, _%_, _≤_, _<_};
 ghost use lib.ListN.{length, getD};
-ghost use Rattle.bits.specs.Map.{digit, bit, lowest, Ones, Common, Skipped, Flipped, Cleared};
+ghost use Rattle.bits.specs.Map.{bit, lowest, Ones, Common, Skipped, Flipped, Cleared};
 
 pub enum Found {
     At(usize),

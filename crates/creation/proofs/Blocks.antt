@@ -1,12 +1,12 @@
 -- A new block: its refusal, its birth, one more argument, and the whole. Assumes nothing.
-use mathlib.Core.Path.{_≡_, refl, sym, ap, ap₂, _∙_, subst}
+use mathlib.Core.Path.{_≡_, refl, sym, ap, _∙_, subst}
 use mathlib.Core.Logic.{_≢_}
 use mathlib.Core.List.{List, [], _∷_, _++_}
-use Prim.Native.Nat.{ℕ, zero, suc, _+_, _-_, _≤_, _<_}
+use Prim.Native.Nat.{ℕ, _+_, _≤_, _<_}
 use native.Mathlib.Omega.{arith}
 use lib.ListN.{length, getD}
 use Rattle.edit.specs.Record.{Edit, new-block, part}
-use Rattle.edit.specs.Taken.{edit-of, Block-fields, Passed}
+use Rattle.edit.specs.Taken.{edit-of, Passed}
 use Rattle.edit.specs.Answer.{found}
 use Rattle.edit.specs.declared.Answer.the-variants.{Accepted, Refused}
 use Rattle.edit.proofs.Asked.{block-fields, part-length}
@@ -15,7 +15,7 @@ use Rattle.rules.specs.History.{births}
 use Rattle.rules.specs.State.{accept}
 use Rattle.rules.specs.Refusal.{check, named, lacks, numbers, live-counts, places, no-room, first-missing, from-state, refusal-of}
 use Rattle.rules.specs.Step.{answer}
-use Rattle.places.specs.Store.{Kind, op, blk, val, usg, arguments, vals, Thing, Con, State, alive, Live, birth, enter}
+use Rattle.places.specs.Store.{Kind, op, blk, val, arguments, vals, Con, State, Live, birth, enter}
 use Rattle.places.specs.View.{num, view, nBirth, nEnter, namedC}
 use Rattle.places.specs.Parts.{store, rowsOf}
 use Rattle.places.specs.Hist.{ruleState, meaning}
@@ -25,7 +25,7 @@ use Rattle.places.proofs.Steps.{Fresh, alive-born}
 use Rattle.places.proofs.Sees.{see-birth, num-new}
 use Rattle.places.proofs.Rows.{mine}
 use Rattle.places.proofs.RuleRefusals.{refusal-tests, born-is}
-use Rattle.places.proofs.RuleAccept.{accept-is, endedOf}
+use Rattle.places.proofs.RuleAccept.{accept-is}
 use Rattle.places.proofs.RuleUses.{cap-birth}
 use Rattle.places.proofs.RuleValues.{value-caps}
 use Rattle.places.proofs.RuleBirths.{block-first, argument-turn}
@@ -39,7 +39,7 @@ use Rattle.context.specs.Steps.{BorneBlock, CanBearValue, BorneValue}
 use Rattle.context.specs.Performed.{abs, Performed}
 use Rattle.context.proofs.Places.{place<}
 use Rattle.context.proofs.Performing.{refuses, accepts}
-use Rattle.creation.specs.Room.{five, wants, spare, left, RoomIs}
+use Rattle.creation.specs.Room.{five, RoomIs}
 use Rattle.creation.specs.Made.{gone, Made, BlockReady, BlockPartly}
 use Rattle.creation.proofs.Listed.{part-none, part-more}
 

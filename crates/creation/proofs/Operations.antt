@@ -1,8 +1,8 @@
 -- A new operation: its refusal, its birth, one more birth in its lists, and the whole. Assumes nothing.
 use mathlib.Core.Path.{_≡_, refl, sym, ap, ap₂, _∙_, subst}
 use mathlib.Core.Logic.{_≢_}
-use mathlib.Core.List.{List, [], _∷_, _++_, map, append-nil}
-use Prim.Native.Nat.{ℕ, zero, suc, _+_, _-_, _*_, _≤_, _<_}
+use mathlib.Core.List.{List, [], _++_, map, append-nil}
+use Prim.Native.Nat.{ℕ, suc, _+_, _-_, _*_, _≤_, _<_}
 use native.Mathlib.Omega.{arith}
 use native.Mathlib.Numerals.{add-one}
 use lib.ListN.{length, getD}
@@ -16,9 +16,9 @@ use Rattle.edit.proofs.Asked.{operation-fields, part-length}
 use Rattle.edit.proofs.ByKind.{kinds}
 use Rattle.rules.specs.History.{births}
 use Rattle.rules.specs.State.{accept}
-use Rattle.rules.specs.Refusal.{check, named, definition-named, value-named, block-named, lacks, numbers, live-counts, places, no-room, first-missing, from-state, refusal-of}
+use Rattle.rules.specs.Refusal.{check, named, definition-named, block-named, lacks, numbers, live-counts, places, no-room, first-missing, from-state, refusal-of}
 use Rattle.rules.specs.Step.{answer}
-use Rattle.places.specs.Store.{Kind, op, blk, reg, val, usg, results, operands, successors, valueUses, blockUses, regions, vals, slots, useSets, Thing, Con, State, alive, Live, Linked, birth, enter, relink, setOwn, setList}
+use Rattle.places.specs.Store.{Kind, op, blk, reg, val, usg, results, operands, successors, valueUses, blockUses, regions, vals, slots, useSets, Con, State, Live, Linked, birth, enter, relink, setOwn, setList}
 use Rattle.places.specs.View.{num, view, nBirth, nEnter, namedC}
 use Rattle.places.specs.Edits.{birthUse, nBirthUse}
 use Rattle.places.specs.Parts.{store, rowsOf}
@@ -44,8 +44,8 @@ use Rattle.context.specs.Steps.{BorneOp, CanBearValue, BorneValue, CanBear, Bor
 use Rattle.context.specs.Performed.{abs, Performed}
 use Rattle.context.proofs.Places.{place<}
 use Rattle.context.proofs.Performing.{refuses, accepts}
-use Rattle.creation.specs.Room.{five, wants, spare, left, RoomIs}
-use Rattle.creation.specs.Made.{slotBy, Named, NamesIs, CanUse, Used, Counts, OperationReady, OperationTested, grown, least, OperationPartly, gone, Made}
+use Rattle.creation.specs.Room.{five, RoomIs}
+use Rattle.creation.specs.Made.{slotBy, NamesIs, CanUse, Used, Counts, OperationReady, OperationTested, grown, least, OperationPartly, gone, Made}
 use Rattle.creation.proofs.Listed.{part-none, part-more}
 use Rattle.creation.proofs.Names.{slot-0, slot-1, all-there}
 

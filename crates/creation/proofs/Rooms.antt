@@ -1,24 +1,22 @@
 -- The tests of 20 and 21 over all kinds, as the code makes them. Assumes nothing.
-use mathlib.Core.Path.{_≡_, refl, sym, ap, ap₂, _∙_, subst}
+use mathlib.Core.Path.{_≡_, refl, sym, ap, ap₂, _∙_}
 use mathlib.Core.Bool.{Bool, true, false, _||_}
 use mathlib.Core.List.{List}
-use Prim.Native.Nat.{ℕ, _+_, _-_, _≤_, _<_}
+use Prim.Native.Nat.{ℕ, _-_, _<_}
 use native.Mathlib.Omega.{arith}
 use lib.Dec.{ltb}
-use lib.ListN.{length}
 use borrow.Author.Tests.{lt-ltb, le-ltb, ltb-false}
 use Rattle.table.specs.Table.{Says}
 use Rattle.rules.specs.History.{Five}
 use Rattle.rules.specs.Refusal.{check, lacks, numbers, live-counts}
 use Rattle.places.specs.Store.{Kind, op, blk, reg, val, usg, State}
 use Rattle.places.specs.Parts.{store}
-use Rattle.places.specs.Hist.{meaning}
 use Rattle.places.proofs.RuleRefusals.{lives-is, caps-is, born-is}
 use Rattle.context.specs.declared.Layout.{Layout}
 use Rattle.context.specs.Layout.{capOf}
 use Rattle.context.specs.Memory.{stateOf, partsOf, SoundStore}
 use Rattle.context.specs.Performed.{abs}
-use Rattle.creation.specs.Room.{five, wants, spare, left, LackIs, RoomIs}
+use Rattle.creation.specs.Room.{five, spare, left, LackIs, RoomIs}
 
 says-ltb : (p : Bool) (a w : ℕ) → Says p (a < w) → ltb a w ≡ p
 says-ltb true a w h = lt-ltb a w h

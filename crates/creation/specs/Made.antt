@@ -8,7 +8,7 @@ use lib.ListN.{length, getD}
 use Rattle.edit.specs.Record.{Slot, operand, successor, Edit, new-operation, new-block, part}
 use Rattle.edit.specs.Taken.{edit-of, Operation-fields, Block-fields}
 use Rattle.rules.specs.Refusal.{Name, definition-named, first-missing, refusal-of}
-use Rattle.places.specs.Store.{Kind, op, blk, reg, val, usg, Live, State}
+use Rattle.places.specs.Store.{Kind, op, blk, val, usg, Live, State}
 use Rattle.places.specs.View.{num, view}
 use Rattle.places.specs.Edits.{nBirthUse}
 use Rattle.places.specs.Roles.{Unnamed, slotRole, defRole, defKind}

@@ -1,9 +1,9 @@
 -- Places and numbers for what an edit gives birth to, all kinds at once: 20 and 21.
 -- Assumes nothing: these are definitions.
 use mathlib.Core.Path.{_≡_}
-use mathlib.Core.Bool.{Bool, true, false}
+use mathlib.Core.Bool.{Bool, false}
 use mathlib.Core.List.{List}
-use Prim.Native.Nat.{ℕ, _-_, _≤_, _<_}
+use Prim.Native.Nat.{ℕ, _-_, _≤_}
 use lib.ListN.{length}
 use Rattle.rules.specs.History.{Five}
 use Rattle.rules.specs.Refusal.{check, lacks, numbers, live-counts}

@@ -1,11 +1,11 @@
 -- An answer's three words among the others. Assumes nothing.
-use mathlib.Core.Path.{_≡_, refl, sym, ap, _∙_}
+use mathlib.Core.Path.{_≡_, _∙_}
 use mathlib.Core.List.{List}
-use Prim.Native.Nat.{ℕ, _+_, _*_, _≤_, _<_}
+use Prim.Native.Nat.{ℕ, _+_, _*_, _≤_}
 use native.Mathlib.Omega.{arith}
 use lib.ListN.{length, getD, set, length-set}
 use lib.Seq.{getD-set-same, getD-set-other}
-use Rattle.edit.specs.Answer.{Reply, numbers, reply-at, Put}
+use Rattle.edit.specs.Answer.{numbers, Put}
 
 module _ (m : List ℕ) (k n a b : ℕ) (room : 3 * k + 3 ≤ length m) where
   m₁ : List ℕ

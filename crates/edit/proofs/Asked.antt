@@ -1,15 +1,15 @@
 -- What a caller of the reader goes on with: the edit that a record asks for, and its fields and listed numbers by index.
 -- Assumes nothing.
 use mathlib.Core.Path.{_≡_, refl, sym, ap, _∙_}
-use mathlib.Core.Bool.{Bool, true, false, _&&_, _||_}
+use mathlib.Core.Bool.{Bool, true, false, _||_}
 use mathlib.Core.List.{List, [], _∷_}
-use Prim.Native.Nat.{ℕ, suc, _+_, _-_, _≤_, _<_, min}
+use Prim.Native.Nat.{ℕ, suc, _+_, _-_, _≤_, _<_}
 use native.Mathlib.Omega.{arith}
 use borrow.Author.Tests.{ltb-false}
 use lib.Dec.{ltb}
 use lib.ListN.{length, getD, take, drop, length-drop}
 use lib.Seq.{take-length, drop-length, drop-cons, length-take-le, getD-take, getD-drop}
-use Rattle.edit.specs.Record.{Edit, Cut, whole, cut, field, part, least, over, filled, Read, refused, asks, read}
+use Rattle.edit.specs.Record.{Edit, whole, cut, field, part, least, over, refused, asks, read}
 use Rattle.edit.specs.Taken.{kind-of, fields-of, cut-of, Next-cut, edit-of, read-of, Passed, Taken, Operation-fields, Block-fields, Listed-fields}
 use Rattle.edit.specs.declared.Next.{Next}
 use Rattle.edit.specs.declared.Next.the-variants.{Whole}

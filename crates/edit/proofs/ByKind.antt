@@ -2,7 +2,7 @@
 use mathlib.Core.Path.{refl}
 use mathlib.Core.List.{List}
 use Prim.Native.Nat.{ℕ}
-use Rattle.edit.specs.Record.{Slot, operand, successor, Member, operation, block, field, edits}
+use Rattle.edit.specs.Record.{operand, successor, operation, block, field, edits}
 use Rattle.edit.specs.Taken.{edit-of}
 use Rattle.edit.specs.ByKind.{Kinds}
 

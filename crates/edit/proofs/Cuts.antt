@@ -1,17 +1,16 @@
 -- Bytes by fours and the next record of a list of bytes: laws about `words` and `cut`, stated over the indexes that the
 -- code reads. Assumes nothing.
 use mathlib.Core.Path.{_≡_, refl, sym, ap, ap₂, _∙_}
-use mathlib.Core.Bool.{Bool, true, false, _&&_}
+use mathlib.Core.Bool.{Bool, true, false}
 use mathlib.Core.List.{List, [], _∷_}
 use Prim.Native.Nat.{ℕ, zero, suc, _+_, _-_, _*_, _/_, _%_, _≤_, _<_}
-use native.Mathlib.Nat.{add-zero, add-assoc, le-of-suc-le-suc}
+use native.Mathlib.Nat.{add-zero, add-assoc}
 use native.Mathlib.Omega.{arith}
 use borrow.Author.Tests.{le-leb, lt-leb, eq-eqb, ne-eqb}
-use lib.Dec.{leb, eqb}
 use lib.ListN.{length, getD, take, drop, length-drop, drop-of-length-le}
 use lib.Seq.{take-nil, getD-take, getD-drop, drop-drop}
-use Rattle.edit.specs.Record.{little, words, Cut, nothing, broken, whole, length-ok, cut}
-use Rattle.edit.specs.Taken.{kind-of, fields-of, number-at, record-at, cut-of, Lies, Next-cut}
+use Rattle.edit.specs.Record.{little, words, Cut, broken, whole, length-ok, cut}
+use Rattle.edit.specs.Taken.{kind-of, fields-of, number-at, cut-of, Lies, Next-cut}
 use Rattle.edit.specs.declared.Next.{Next}
 use Rattle.edit.specs.declared.Next.the-variants.{Nothing, Broken, Whole}
 

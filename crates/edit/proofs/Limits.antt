@@ -1,15 +1,14 @@
 -- Refusals 2 to 4 by the tests that the code makes, and what a record that passed them holds. Assumes nothing.
 use mathlib.Core.Path.{_≡_, refl, sym, ap, subst, _∙_}
-use mathlib.Core.Bool.{Bool, true, false, _&&_, _||_}
-use mathlib.Core.List.{List, []}
-use Prim.Native.Nat.{ℕ, zero, suc, _+_, _-_, _≤_, _<_}
+use mathlib.Core.Bool.{Bool, true, false, _||_}
+use mathlib.Core.List.{List}
+use Prim.Native.Nat.{ℕ, zero, suc, _+_, _≤_, _<_}
 use native.Mathlib.Omega.{arith}
 use borrow.Author.Tests.{lt-ltb, le-ltb, eq-eqb, ne-eqb}
 use lib.Dec.{eqb, ltb}
 use lib.ListN.{length, getD}
-use Rattle.edit.specs.Record.{field, least, over, filled, Read, refused, asks, read}
+use Rattle.edit.specs.Record.{field, least, over, filled, refused, asks, read}
 use Rattle.edit.specs.Taken.{kind-of, fields-of, edit-of, read-of, Passed, Taken}
-use Rattle.edit.specs.declared.Reading.{Reading}
 use Rattle.edit.specs.declared.Reading.the-variants.{Refused, Asks}
 
 or-false : (t : Bool) → (t || false) ≡ t

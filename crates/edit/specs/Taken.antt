@@ -1,7 +1,7 @@
 -- An edit record in its bytes: where the kind and the fields stand, what the search for the next record says, and what
 -- reading a whole record says. Assumes nothing: these are definitions.
 use mathlib.Core.Path.{_≡_}
-use mathlib.Core.Bool.{Bool, true, false}
+use mathlib.Core.Bool.{false}
 use mathlib.Core.List.{List, []}
 use Prim.Native.Nat.{ℕ, _+_, _-_, _*_, _%_, _≤_}
 use lib.ListN.{length, getD, take, drop}

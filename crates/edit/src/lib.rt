@@ -3,8 +3,8 @@
 // A record is a length and a kind of 16 bits each and then fields of 32 bits, little-endian. No function that reads
 // bytes requires anything of them: what is wrong with a record is an answer.
 ghost use mathlib.Core.Path.{_≡_};
-ghost use mathlib.Core.Bool.{Bool, true, false};
-ghost use Prim.Native.Nat.{ℕ, _+_, _*_, _≤_, _<_};
+ghost use mathlib.Core.Bool.{true, false};
+ghost use Prim.Native.Nat.{_+_, _*_, _≤_, _<_};
 ghost use lib.ListN.{length, getD};
 ghost use Rattle.edit.specs.Answer.{Put, numbers, numbers-of};
 ghost use Rattle.edit.specs.Record.{least, over, filled};

@@ -9,7 +9,6 @@ use Rattle.edit.specs.Answer.{Reply, Put, numbers-of}
 use Rattle.edit.specs.declared.Answer.{Answer}
 use Rattle.rules.specs.Listing.{edit-lines, listing}
 use Rattle.context.specs.declared.Layout.{Layout}
-use Rattle.context.specs.Memory.{layoutOf}
 use Rattle.context.specs.Checked.{Headed}
 use Rattle.context.specs.Performed.{abs}
 use Rattle.context.specs.Start.{StartIs, WordsNeeded}

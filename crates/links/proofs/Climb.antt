@@ -2,23 +2,21 @@
 use mathlib.Core.Path.{_≡_, refl, sym, ap, ap₂, _∙_, subst}
 use mathlib.Core.Logic.{_≢_, _↔_}
 use mathlib.Core.Bool.{Bool, true, false}
-use mathlib.Core.List.{List}
 use mathlib.Core.Option.{Option, none, some}
 use native.Mathlib.Omega.{arith}
 use Prim.Native.Nat.{ℕ, zero, suc, _+_, _-_, _<_, _≤_}
 use lib.Dec.{eqb}
 use lib.ListN.{length}
-use borrow.Author.Tests.{eq-eqb, ne-eqb}
 use Rattle.seqs.specs.Seqs.{tick, count}
 use Rattle.seqs.proofs.Base.{tick-yes, tick-no}
 use Rattle.table.specs.Table.{Says}
-use Rattle.places.specs.Store.{Kind, op, blk, reg, val, usg, regions, ops, blocks, regs, opsIn, blocksIn, Thing, Thing-dec, Con, State, Live, Link, Linked, Sound, outer, up}
+use Rattle.places.specs.Store.{Kind, op, blk, reg, val, usg, regions, ops, blocks, regs, opsIn, blocksIn, Thing, Thing-dec, State, Live, Linked, Sound, outer, up}
 use Rattle.places.specs.Walk.{over, walk}
 use Rattle.places.proofs.Nest.{hits}
 use Rattle.places.proofs.RuleClimb as R
 use Rattle.places.proofs.RuleClimb.{slack, enough}
 use Rattle.context.specs.Layout.{kindOf}
-use Rattle.links.specs.Climbing.{climbed, thrice, reached, StepIs}
+use Rattle.links.specs.Climbing.{climbed, thrice, StepIs}
 
 -- ---- kinds by their codes
 

@@ -20,7 +20,6 @@ use Rattle.places.specs.Store.{Kind, Fam, fam, nodeOf, Limited, Thing, Thing-de
 use Rattle.places.specs.View.{num}
 use Rattle.places.specs.Hist.{meaning}
 use Rattle.places.specs.Settled.{Settles}
-use Rattle.places.specs.Parts.{nodeIn}
 use Rattle.places.specs.Members.{roleOf, memberAt, containerAt, listAt, homeOf, heldCode, position}
 use Rattle.places.proofs.Steps.{CanEnter, once}
 use Rattle.places.specs.Roles.{Unnamed}

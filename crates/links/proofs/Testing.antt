@@ -1,7 +1,7 @@
 -- What the tests of an edit of a list come to: the codes of the code are those of the rules. Assumes nothing.
-use mathlib.Core.Path.{_≡_, refl, sym, ap, ap₂, _∙_, subst}
+use mathlib.Core.Path.{_≡_, refl, sym, ap, _∙_, subst}
 use mathlib.Core.Logic.{_≢_, ⊎-elim}
-use mathlib.Core.Bool.{Bool, true, false}
+use mathlib.Core.Bool.{Bool}
 use mathlib.Core.List.{List, [], _∷_}
 use mathlib.Core.Option.{Option, none, some}
 use native.Mathlib.Omega.{arith}
@@ -10,32 +10,29 @@ use lib.ListN.{length}
 use Rattle.seqs.specs.Seqs.{count}
 use Rattle.seqs.proofs.Base.{tick-no}
 use Rattle.table.specs.Table.{Says}
-use Rattle.bits.specs.declared.Found.{Found}
-use Rattle.bits.specs.declared.Found.the-variants.{At, Nothing}
-use Rattle.edit.specs.Record.{Member, operation, block, Edit, link-after, link-before, link-front, link-back, unlink}
+use Rattle.edit.specs.Record.{Member, operation, block, Edit, link-after, link-before, link-front, link-back}
 use Rattle.rules.specs.Refusal.{Name, member-named, container-named, named, missing, first-missing, from-state, refusal-of}
 use Rattle.places.specs.Alias.{RState}
-use Rattle.places.specs.Store.{Kind, op, blk, reg, usg, nodeOf, holderOf, Thing, Thing-dec, Con, State, Live, Sound, Clear, up}
-use Rattle.places.specs.View.{num, view}
-use Rattle.places.specs.Hist.{hist, ruleState, meaning}
+use Rattle.places.specs.Store.{op, blk, reg, usg, nodeOf, holderOf, Thing, Thing-dec, Con, State, Live, Sound, up}
+use Rattle.places.specs.View.{num}
+use Rattle.places.specs.Hist.{ruleState, meaning}
 use Rattle.places.specs.Parts.{rowsOf}
-use Rattle.places.specs.Walk.{pick, gather, kids, walkBy, population, walk}
+use Rattle.places.specs.Walk.{gather, kids, walkBy, population, walk}
 use Rattle.places.specs.Members.{roleOf, memberAt, containerAt, listAt, homeOf, heldCode, insideCode, markCode, enterCode, besideCode}
 use Rattle.places.proofs.Cut.{pick-0, pick-1, zero-or}
 use Rattle.places.proofs.Nest.{kindCode}
 use Rattle.places.proofs.DropTurn.{kids-op, kids-blk}
-use Rattle.places.proofs.Steps.{some-none}
 use Rattle.places.specs.Roles.{Unnamed}
 use Rattle.places.proofs.RuleRefusals.{refusal-name, refusal-tests, missing-first, missing-next, member-there, member-missing, container-there, container-missing}
-use Rattle.places.proofs.RuleLinkTests.{walk-clear, container-live, front-code, back-code, after-code, before-code, unlink-code}
+use Rattle.places.proofs.RuleLinkTests.{walk-clear, container-live, front-code, back-code, after-code, before-code}
 use Rattle.context.specs.declared.Layout.{Layout}
 use Rattle.context.specs.Layout.{famOf, ncOf}
 use Rattle.context.specs.Memory.{stateOf, SoundStore, HomeIs, headCode, FirstIs}
 use Rattle.context.specs.Performed.{abs}
 use Rattle.context.proofs.Places.{place<}
-use Rattle.links.specs.Tests.{memberOf, missingCode, MayEnter, Refuses, Entering, Beside}
+use Rattle.links.specs.Tests.{memberOf, missingCode, Refuses, Entering, Beside}
 use Rattle.links.specs.Climbing.{climbed, thrice}
-use Rattle.links.proofs.Climb.{said, denied, block-walk, region-walk}
+use Rattle.links.proofs.Climb.{block-walk, region-walk}
 use Rattle.links.proofs.Sorts.{by-sort, home-free, home-at}
 
 -- ---- the codes 15, 16, 17

@@ -2,7 +2,7 @@
 -- Assumes nothing: these are definitions.
 use mathlib.Core.Path.{_≡_}
 use mathlib.Core.Logic.{_↔_}
-use mathlib.Core.Option.{Option, none, some}
+use mathlib.Core.Option.{Option}
 use Prim.Native.Nat.{ℕ, zero, suc, _+_, _<_}
 use Rattle.seqs.specs.Seqs.{tick}
 use Rattle.places.specs.Store.{op, Thing, Thing-dec, State, Live, up}

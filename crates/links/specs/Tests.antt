@@ -2,12 +2,12 @@
 -- Assumes nothing: these are definitions.
 use mathlib.Core.Path.{_≡_}
 use mathlib.Core.List.{List}
-use mathlib.Core.Option.{Option, none, some}
+use mathlib.Core.Option.{none, some}
 use Prim.Native.Nat.{ℕ, zero, suc, _<_}
-use Rattle.places.specs.Store.{Thing, State, Live, Clear, up}
+use Rattle.places.specs.Store.{State, Live, Clear, up}
 use Rattle.places.specs.View.{num}
-use Rattle.places.specs.Members.{memberAt, containerAt, listAt, homeOf, roleOf}
-use Rattle.edit.specs.Record.{Member, operation, block, Edit, link-after, link-before, link-front, link-back, unlink, move-region}
+use Rattle.places.specs.Members.{memberAt, containerAt, listAt, homeOf}
+use Rattle.edit.specs.Record.{Member, operation, block, Edit, link-after, link-before, link-front, link-back}
 use Rattle.rules.specs.Refusal.{refusal-of}
 use Rattle.context.specs.declared.Layout.{Layout}
 use Rattle.context.specs.Memory.{stateOf}

@@ -5,7 +5,7 @@ use bits::Found;
 use context::Layout;
 use edit::Answer;
 ghost use mathlib.Core.Path.{_≡_};
-ghost use Prim.Native.Nat.{ℕ, suc, _+_, _≤_, _<_};
+ghost use Prim.Native.Nat.{suc, _+_, _≤_, _<_};
 ghost use Rattle.seqs.specs.Seqs.{count};
 ghost use Rattle.table.specs.Table.{Says};
 ghost use Rattle.edit.specs.Record.{link-after, link-before, link-front, link-back, unlink, move-region};

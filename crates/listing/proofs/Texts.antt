@@ -1,7 +1,7 @@
 -- The lines that the functions write are the rules': of operations, blocks, regions, values, and the line of counts. Assumes nothing.
 use mathlib.Core.Path.{_≡_, refl, sym, ap, ap₂, _∙_}
 use mathlib.Core.List.{List, [], _∷_, _++_, map, append-assoc}
-use Prim.Native.Nat.{ℕ, _+_, _-_, _*_, _<_}
+use Prim.Native.Nat.{ℕ, _+_, _-_, _*_}
 use native.Mathlib.Omega.{arith}
 use lib.ListN.{length}
 use Rattle.places.specs.Store.{Kind, op, blk, reg, val, usg, Role, operands, successors, blockUses, results, arguments, regions, ops, blocks, Fam, slots, vals, regs, opsIn, blocksIn, Thing, Con, State, Live, up}
@@ -22,7 +22,7 @@ use Rattle.context.specs.Memory.{con, stateOf, SoundStore}
 use Rattle.context.specs.Reading.{listOf}
 use Rattle.context.specs.Performed.{abs}
 use Rattle.context.proofs.Places.{place<}
-use Rattle.listing.specs.Writer.{write, Written}
+use Rattle.listing.specs.Writer.{Written}
 use Rattle.listing.specs.Lines.{nodeText, rowText, numbersIn, homeNumber, definitionAt, usesAmong, lines}
 use Rattle.listing.proofs.Rows.{operands-at, successors-at, results-at, arguments-at, value-uses-at, block-uses-at}
 use Rattle.listing.proofs.Uses.{uses-are}

@@ -1,9 +1,9 @@
 -- In a sound store every test of uses and definitions passes: an operand is a use of its definition, and what a definition lists points back to it.
 -- So the verdicts may leave these tests out. Assumes nothing.
 use mathlib.Core.Path.{_≡_, refl, sym, ap, _∙_, subst}
-use mathlib.Core.Option.{Option, some}
+use mathlib.Core.Option.{some}
 use Rattle.seqs.specs.Seqs.{In}
-use Rattle.places.specs.Store.{Kind, usg, Role, slots, useSets, fam, nodeOf, Fam, Thing, Thing-dec, Con, State, Live, Link, Linked, Fit, UseHeld, Placed, Sound}
+use Rattle.places.specs.Store.{Kind, usg, Role, slots, useSets, fam, nodeOf, Fam, Thing, Thing-dec, Con, State, Link, Fit, UseHeld, Placed, Sound}
 use Rattle.places.specs.DefUse.{IsUseOfItsDefinition, PointsBack}
 use Rattle.places.proofs.Steps.{some-inj, once, listed}
 

@@ -6,12 +6,12 @@ use mathlib.Core.List.{List}
 use mathlib.Core.Option.{Option}
 use native.Mathlib.Decide.{ℕ-discrete}
 use native.Mathlib.Omega.{arith}
-use Prim.Native.Nat.{ℕ, zero, _<_}
+use Prim.Native.Nat.{ℕ, _<_}
 use Rattle.seqs.specs.Seqs.{upd, tick}
 use Rattle.seqs.proofs.Base.{tick-no, tick-yes, upd-at, upd-other}
 use Rattle.places.specs.Edits.{birthUse, endUse, moveUse}
 use Rattle.places.specs.Store.{Kind, Kind-dec, usg, Thing, Con, Table, State, alive, Live, born, gone, birth, end, enter, leave, relink, setOwn, setList}
-use Rattle.places.specs.Walk.{pick, sift, goneBy, cutBy}
+use Rattle.places.specs.Walk.{pick, goneBy, cutBy}
 use Rattle.places.specs.Settled.{Lowest, Settled, kept, grown, Settles}
 use Rattle.places.proofs.Cut.{pick-0, pick-1, sift-all}
 use Rattle.places.proofs.Cuts.{without-sift}

@@ -5,7 +5,7 @@ ghost use Prim.Native.Nat.{_≤_};
 ghost use lib.ListN.{length};
 ghost use Rattle.rules.specs.Listing.{printed, output};
 ghost use Rattle.listing.specs.Writer.{Written};
-ghost use Rattle.program.specs.Program.{capacities, Begun};
+ghost use Rattle.program.specs.Program.{Begun};
 
 // An empty store with the program's capacities.
 fn begin(store: &mut [u32]) -> Layout

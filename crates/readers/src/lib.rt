@@ -3,7 +3,7 @@ use bits::Found;
 use context::Layout;
 ghost use mathlib.Core.Path.{_≡_};
 ghost use mathlib.Core.List.{[], _∷_};
-ghost use Prim.Native.Nat.{_+_, _≤_, _<_};
+ghost use Prim.Native.Nat.{_+_, _<_};
 ghost use lib.ListN.{length, getD};
 ghost use Rattle.places.specs.Store.{Live, usg, useSets};
 ghost use Rattle.context.specs.Layout.{ncOf};

@@ -2,12 +2,11 @@
 use mathlib.Core.Path.{_≡_, refl, sym, ap, subst, _∙_}
 use mathlib.Core.Bool.{Bool, not}
 use mathlib.Core.List.{List, [], _∷_}
-use mathlib.Core.Option.{Option, some}
 use Prim.Native.Nat.{ℕ, _+_}
 use native.Mathlib.Omega.{arith}
 use lib.Dec.{T}
 use lib.ListN.{length}
-use Rattle.edit.specs.Record.{Edit, Thing, Definition}
+use Rattle.edit.specs.Record.{Edit, Thing}
 use Rattle.rules.specs.Table.{nth, sum-over, one, count, next-of, previous-of}
 use Rattle.rules.specs.Told.{ended, born}
 use Rattle.rules.specs.Demand.{View, Place, stands-at, LiesIn, directly, further, container-thing, tally, HeldBy, StandsAt, Demand3}

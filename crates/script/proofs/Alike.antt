@@ -1,12 +1,12 @@
 -- What is seen of a sound store in memory is alike to what the rules see of its state. Assumes nothing.
-use mathlib.Core.Path.{_≡_, refl, sym, ap, _∙_}
+use mathlib.Core.Path.{_≡_, refl, ap, _∙_}
 use mathlib.Core.List.{List}
 use mathlib.Core.Option.{Option, none, some}
 use Prim.Native.Nat.{ℕ, _-_}
 use lib.ListN.{length}
 use Rattle.edit.specs.Record.{Member}
 use Rattle.rules.specs.Table.{next-of, previous-of}
-use Rattle.rules.specs.History.{History, container}
+use Rattle.rules.specs.History.{container}
 use Rattle.rules.specs.Demand.{members-of}
 use Rattle.rules.specs.Demand.{view as rule-view}
 use Rattle.rules.specs.Alike.{Alike}
@@ -15,7 +15,6 @@ use Rattle.rules.proofs.Inside.{rising-once}
 use Rattle.places.specs.Store.{usg, State}
 use Rattle.places.specs.View.{view}
 use Rattle.places.specs.Hist.{hist, ruleState, meaning}
-use Rattle.places.specs.Alias.{RState}
 use Rattle.context.specs.declared.Layout.{Layout}
 use Rattle.context.specs.Memory.{stateOf, SoundStore}
 use Rattle.context.specs.Performed.{abs}

@@ -1,16 +1,14 @@
 -- The link cells of a sound store name the neighbours of a node in its list, by number. Assumes nothing.
-use mathlib.Core.Path.{_≡_, refl, sym, ap, _∙_, subst}
-use mathlib.Core.Logic.{_≢_, _⊎_, inl, inr, by-cases}
-use mathlib.Core.Bool.{Bool, true, false, cond}
-use mathlib.Core.List.{List, [], _∷_, map, map-map}
+use mathlib.Core.Path.{_≡_, refl, sym, ap, _∙_}
+use mathlib.Core.Logic.{_≢_, _⊎_, inl, inr}
+use mathlib.Core.Bool.{Bool, cond}
+use mathlib.Core.List.{List, [], _∷_, map}
 use mathlib.Core.Option.{Option, none, some}
-use Prim.Native.Nat.{ℕ, zero, suc, _+_, _*_, _<_, _≤_}
-use native.Mathlib.Decide.{ℕ-discrete}
+use Prim.Native.Nat.{ℕ, zero, suc, _+_, _*_, _<_}
 use native.Mathlib.Omega.{arith}
 use borrow.Author.Tests.{eq-eqb, ne-eqb}
-use lib.Dec.{eqb}
-use lib.ListN.{length, getD}
-use Rattle.linked_list.specs.Links.{at, place, home, Row, Free, Held, Linked}
+use lib.ListN.{getD}
+use Rattle.linked_list.specs.Links.{at, place, home, Free, Held, Linked}
 use Rattle.linked_list.specs.Links.{lists as rows}
 use Rattle.linked_list.proofs.Laws.{at-inj, at-lt}
 use Rattle.linked_list.proofs.View.{Seat, seat}

@@ -1,33 +1,27 @@
 -- What stands before and after an operation or block, read off the link cells, is what the rules see there. Assumes nothing.
-use mathlib.Core.Path.{_≡_, refl, sym, ap, _∙_, subst}
-use mathlib.Core.List.{List, [], _∷_, map, map-map}
+use mathlib.Core.Path.{_≡_, refl, sym, ap, _∙_}
+use mathlib.Core.List.{List, [], map, map-map}
 use mathlib.Core.Option.{Option, none, some}
 use Prim.Native.Nat.{ℕ, zero, suc, _+_, _*_, _<_}
-use native.Mathlib.Decide.{ℕ-discrete}
-use native.Mathlib.Omega.{arith}
 use lib.ListN.{getD}
-use Rattle.seqs.specs.Seqs.{In}
 use Rattle.seqs.specs.Split.{split}
 use Rattle.linked_list.specs.Links.{at, home}
 use Rattle.linked_list.specs.Links.{lists as rows}
 use Rattle.linked_list.proofs.View.{seat}
 use Rattle.edit.specs.Record.{Member, operation, block}
-use Rattle.rules.specs.Table.{next-of, previous-of, find}
+use Rattle.rules.specs.Table.{next-of, previous-of}
 use Rattle.rules.specs.History.{History, container}
 use Rattle.rules.specs.Orders.{lists, or-empty, list-at}
-use Rattle.rules.specs.Demand.{members-of}
-use Rattle.places.specs.Store.{Kind, op, blk, reg, nodeOf, ops, blocks, Fam, opsIn, blocksIn, Con, State, alive, Live, Link, Sound, outer, up}
+use Rattle.places.specs.Store.{Kind, blk, reg, nodeOf, ops, blocks, Fam, Con, State, alive, Live, Link, Sound, outer, up}
 use Rattle.places.specs.View.{num, recOf, view}
 use Rattle.places.specs.Parts.{nodeIn, conOf, rowsOf, store}
 use Rattle.places.specs.Hist.{hist, ordersOf}
-use Rattle.places.specs.Alias.{RState}
 use Rattle.places.specs.Roles.{Unnamed}
-use Rattle.places.proofs.Steps.{thing-eq}
 use Rattle.places.proofs.Sees.{num-inj}
 use Rattle.places.proofs.RuleClimb.{numOpt}
 use Rattle.places.proofs.RuleNames.{find-live, container-is}
 use Rattle.context.specs.declared.Layout.{Layout}
-use Rattle.context.specs.Layout.{capOf, ncOf, nnOf, sizes, famPart}
+use Rattle.context.specs.Layout.{ncOf, nnOf, sizes, famPart}
 use Rattle.context.specs.Memory.{decode, part, partsOf, con, stateOf, Well}
 use Rattle.context.proofs.Families.{own-is}
 use Rattle.context.proofs.Families.{list-at as row-at}

@@ -6,7 +6,7 @@ use native.Mathlib.Omega.{arith}
 use native.Mathlib.Nat.{sub-zero}
 use lib.ListN.{length, drop, length-append, length-drop}
 use Rattle.edit.specs.Record.{Cut, nothing, broken, whole, cut, Read, refused, asks, read}
-use Rattle.edit.specs.Taken.{kind-of, fields-of, record-at, cut-of, Lies, Next-cut, edit-of, read-of, Passed, Taken}
+use Rattle.edit.specs.Taken.{kind-of, fields-of, record-at, cut-of, Next-cut, edit-of, read-of, Taken}
 use Rattle.edit.specs.Answer.{Reply, refuse, numbers-of, Put}
 use Rattle.edit.specs.declared.Answer.{Answer}
 use Rattle.edit.specs.declared.Answer.the-variants as Answer
@@ -14,20 +14,19 @@ use Rattle.edit.specs.declared.Next.{Next}
 use Rattle.edit.specs.declared.Next.the-variants.{Nothing, Broken, Whole}
 use Rattle.edit.specs.declared.Reading.{Reading}
 use Rattle.edit.specs.declared.Reading.the-variants as Reading
-use Rattle.rules.specs.Step.{obey, perform}
+use Rattle.rules.specs.Step.{obey}
 use Rattle.rules.specs.Script.{ended-with, after-reply, turn, run-by, run}
 use Rattle.rules.specs.Script as Rules
 use Rattle.places.specs.Alias.{RState}
 use Rattle.places.proofs.Settling.{settles-same}
 use Rattle.context.specs.declared.Layout.{Layout}
 use Rattle.context.specs.Memory.{part, SoundStore}
-use Rattle.context.specs.Performed.{abs, Performed}
+use Rattle.context.specs.Performed.{abs}
 use Rattle.edits.specs.Scratch.{PerformedWith}
 use Rattle.script.specs.declared.Ran.{Ran}
-use Rattle.script.specs.declared.Step.{Step}
 use Rattle.script.specs.declared.Step.the-variants.{Stop, Last, On}
-use Rattle.script.specs.Calls.{flat, Over, Turned, Course, over, next, RanOn}
-use Rattle.script.specs.Records.{Obeyed, Stopped, Finished, WentOn, Stepped, before, Going}
+use Rattle.script.specs.Calls.{flat, Over, Course, over, next, RanOn}
+use Rattle.script.specs.Records.{Obeyed, WentOn, Stepped, before, Going}
 use Rattle.script.proofs.Turns.{turn-full, turn-broken, turn-whole, run-turn, run-on, run-none, before-ended, before-more}
 use Rattle.script.proofs.Written.{written-more}
 

@@ -1,28 +1,26 @@
 -- What is read off a sound store by places is what the rules see of it: who lives, the lists, what a thing lies in, and of each use set the same uses.
 -- Assumes nothing.
-use mathlib.Core.Path.{_≡_, refl, sym, ap, ap₂, _∙_, subst}
-use mathlib.Core.Logic.{_≢_, ⊎-elim}
+use mathlib.Core.Path.{_≡_, refl, sym, ap, _∙_, subst}
+use mathlib.Core.Logic.{⊎-elim}
 use mathlib.Core.Bool.{Bool, true, false}
-use mathlib.Core.List.{List, [], _∷_, _++_, map, map-map}
+use mathlib.Core.List.{List, [], _++_, map, map-map}
 use mathlib.Core.Option.{Option, none, some}
-use Prim.Native.Nat.{ℕ, _<_, _≤_}
+use Prim.Native.Nat.{ℕ, _≤_}
 use native.Mathlib.Decide.{ℕ-discrete}
 use native.Mathlib.Omega.{arith}
 use borrow.Author.Tests.{ne-eqb}
-use lib.Dec.{eqb}
 use lib.ListN.{length, length-map}
 use Rattle.seqs.specs.Seqs.{count, In}
 use Rattle.edit.specs.Record.{Slot, Member, operation, block, Thing, the-operation, the-block, the-region, Definition, of-value, of-block}
-use Rattle.rules.specs.Table.{Table, Rising, find, is-some, items, keys, keys-where, concat, one}
+use Rattle.rules.specs.Table.{Table, find, is-some, items, keys, keys-where, concat, one}
 use Rattle.rules.specs.Table.{count as rcount}
 use Rattle.rules.specs.History.{Operation, Block, History, slot-of, block-of, block-at, region-of, region-at, parent, live-region, live-definition, same-definition, uses-of, container}
-use Rattle.rules.specs.Orders.{Orders, lists, or-empty, list-at}
+use Rattle.rules.specs.Orders.{lists, or-empty, list-at}
 use Rattle.rules.specs.Demand.{as-thing, up-from, live-thing, all-definitions}
-use Rattle.rules.proofs.Inside.{rising-once}
 use Rattle.rules.proofs.Sums.{where-found, where-gone}
-use Rattle.places.specs.Store.{Kind, op, blk, reg, val, usg, Role, valueUses, blockUses, results, arguments, ops, blocks, Fam, useSets, nodeOf, holderOf, fam, Con, State, Thing-dec, alive, Live, Link, UseHeld, Sound, up}
+use Rattle.places.specs.Store.{Kind, op, blk, reg, val, usg, Role, valueUses, blockUses, results, arguments, ops, blocks, useSets, nodeOf, holderOf, fam, Con, State, Thing-dec, alive, Live, Link, UseHeld, Sound, up}
 use Rattle.places.specs.View.{num, homeBy, recOf, view}
-use Rattle.places.specs.Hist.{defOf, tabled, opOf, blockOf, useOf, hist, ordersOf}
+use Rattle.places.specs.Hist.{defOf, opOf, blockOf, useOf, hist, ordersOf}
 use Rattle.places.specs.Roles.{Unnamed, slotRole, memberKind, containerKind}
 use Rattle.places.proofs.Bits.{bit, bit-member, tabled-view, count-nums}
 use Rattle.places.proofs.Cut.{pick-1, zero-or}

@@ -5,10 +5,10 @@ use mathlib.Core.Logic.{_≢_, by-cases}
 use mathlib.Core.Bool.{Bool, true, false, cond}
 use mathlib.Core.List.{List, [], _∷_, map}
 use mathlib.Core.Option.{Option, none, some}
-use Prim.Native.Nat.{ℕ, zero, suc, _+_, _<_}
+use Prim.Native.Nat.{ℕ}
 use native.Mathlib.Decide.{ℕ-discrete}
 use native.Mathlib.Omega.{arith}
-use lib.Dec.{eqb, eqb→eq, T}
+use lib.Dec.{eqb, eqb→eq}
 use borrow.Author.Tests.{eqb-false}
 use Rattle.seqs.specs.Seqs.{tick, count, In}
 use Rattle.seqs.proofs.Base.{tick-yes, tick-no, in-head, in-tail}

@@ -1,12 +1,12 @@
 -- The rules' run of a script: no more fuel than the bytes need, and its turns at a position. Assumes nothing.
-use mathlib.Core.Path.{_≡_, refl, sym, ap, _∙_, subst}
+use mathlib.Core.Path.{_≡_, refl, ap, _∙_}
 use mathlib.Core.Logic.{_≢_}
 use mathlib.Core.Bool.{Bool, true, false}
 use mathlib.Core.List.{List, [], _∷_, _++_}
-use Prim.Native.Nat.{ℕ, zero, suc, _+_, _-_, _*_, _<_, _≤_}
+use Prim.Native.Nat.{ℕ, zero, suc, _+_, _-_, _*_, _<_}
 use native.Mathlib.Omega.{arith}
 use lib.ListN.{length, take, drop, length-drop}
-use Rattle.edit.specs.Record.{Cut, nothing, broken, whole, cut, words, length-ok, Read, read}
+use Rattle.edit.specs.Record.{Cut, nothing, broken, whole, cut, words, length-ok, read}
 use Rattle.edit.specs.Answer.{Reply, refuse}
 use Rattle.rules.specs.Step.{obey}
 use Rattle.rules.specs.Script.{ended-with, after-reply, turn, run-by, run}

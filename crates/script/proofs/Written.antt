@@ -1,11 +1,11 @@
 -- The words of answers: one more answer put behind those that are written, as an equation of the whole list. Assumes nothing.
 use mathlib.Core.Path.{_≡_, refl, sym, ap, _∙_}
 use mathlib.Core.List.{List, [], _∷_, _++_, append-assoc}
-use Prim.Native.Nat.{ℕ, zero, suc, _+_, _-_, _*_, _≤_, _<_}
+use Prim.Native.Nat.{ℕ, suc, _+_, _*_, _≤_, _<_}
 use native.Mathlib.Omega.{arith}
-use lib.ListN.{length, getD, take, drop, length-append, length-drop, take-append-drop}
+use lib.ListN.{length, getD, take, drop, length-drop, take-append-drop}
 use lib.Seq.{ext-getD, getD-take, getD-drop, length-take-le, drop-cons, drop-drop, take-at, drop-at}
-use Rattle.edit.specs.Answer.{Reply, reply-at, Put}
+use Rattle.edit.specs.Answer.{Reply, Put}
 use Rattle.script.specs.Calls.{flat}
 
 pub flat-length : (rs : List Reply) → length (flat rs) ≡ 3 * length rs

@@ -2,7 +2,7 @@
 -- Assumes nothing: these are definitions.
 use mathlib.Core.Path.{_≡_}
 use mathlib.Core.List.{List, [], _∷_, _++_}
-use Prim.Native.Nat.{ℕ, zero, suc, _+_, _*_, _/_, _≤_, _<_}
+use Prim.Native.Nat.{ℕ, zero, suc, _*_, _/_, _≤_, _<_}
 use lib.ListN.{length, drop, replicate}
 use Rattle.edit.specs.Record.{Edit, Cut, nothing, broken, whole, cut, Read, refused, asks, read}
 use Rattle.edit.specs.Answer.{Reply, refuse, numbers-of}

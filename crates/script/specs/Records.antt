@@ -2,9 +2,9 @@
 -- Assumes nothing: these are definitions.
 use mathlib.Core.Path.{_≡_}
 use mathlib.Core.List.{List, [], _∷_, _++_}
-use Prim.Native.Nat.{ℕ, suc, _+_, _-_, _*_, _/_, _≤_, _<_}
+use Prim.Native.Nat.{ℕ, suc, _-_, _*_, _/_, _≤_, _<_}
 use lib.ListN.{length, drop}
-use Rattle.edit.specs.Record.{Cut, whole, cut, Read, read}
+use Rattle.edit.specs.Record.{whole, cut, Read, read}
 use Rattle.edit.specs.Taken.{Lies}
 use Rattle.edit.specs.Answer.{Reply, refuse, numbers-of, Put}
 use Rattle.edit.specs.declared.Answer.{Answer}

@@ -1,7 +1,7 @@
 -- What can be seen of a store in memory, read off its words: who lives from the tables' orders, slots, use sets and members from the lists, what a thing
 -- lies in from the home cells, what stands beside it from the link cells. A use set is in the order of its chain. Assumes nothing: these are definitions.
 use mathlib.Core.Bool.{Bool}
-use mathlib.Core.List.{List, [], _∷_, _++_, map}
+use mathlib.Core.List.{List, [], _++_, map}
 use mathlib.Core.Option.{Option, none, some}
 use Prim.Native.Nat.{ℕ, _+_, _*_}
 use lib.ListN.{getD}

@@ -4,7 +4,7 @@ use edit::Answer;
 use edit::Next;
 use edit::Reading;
 ghost use mathlib.Core.Path.{_≡_};
-ghost use Prim.Native.Nat.{ℕ, _+_, _*_, _/_, _≤_, _<_};
+ghost use Prim.Native.Nat.{_+_, _/_, _≤_, _<_};
 ghost use lib.ListN.{length, replicate};
 ghost use Rattle.edit.specs.Record.{asks, read};
 ghost use Rattle.edit.specs.Taken.{Passed, kind-of, fields-of, edit-of};

@@ -1,6 +1,6 @@
 -- Laws of function updates, counts and lists under a map. Assumes nothing.
-use mathlib.Core.Path.{_≡_, refl, sym, ap, _∙_, subst}
-use mathlib.Core.Logic.{_≢_, _↔_, ite, if-pos, if-neg, by-cases, _⊎_, inl, inr, ⊎-elim}
+use mathlib.Core.Path.{_≡_, refl, sym, ap, _∙_}
+use mathlib.Core.Logic.{_≢_, _↔_, ite, if-pos, if-neg, by-cases, _⊎_, inl, inr}
 use mathlib.Core.HLevel.{Discrete}
 use mathlib.Core.List.{List, [], _∷_, _++_, map}
 use native.Mathlib.Decide.{ℕ-discrete}

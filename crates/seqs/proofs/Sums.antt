@@ -1,15 +1,14 @@
 -- Sums and counts over lists. Assumes nothing.
-use mathlib.Core.Path.{_≡_, refl, sym, ap, ap₂, _∙_}
-use mathlib.Core.Logic.{_≢_, by-cases, _⊎_, inl, inr, ⊎-elim}
+use mathlib.Core.Path.{_≡_, refl, sym, ap}
+use mathlib.Core.Logic.{_≢_, by-cases}
 use mathlib.Core.HLevel.{Discrete}
 use mathlib.Core.List.{List, [], _∷_, _++_, map}
-use mathlib.Core.Option.{Option, none, some}
 use native.Mathlib.Decide.{ℕ-discrete}
 use native.Mathlib.Omega.{arith}
 use Prim.Native.Nat.{ℕ, zero, suc, _+_, _<_, _≤_}
-use lib.ListN.{length, length-map}
+use lib.ListN.{length}
 use Rattle.seqs.specs.Seqs.{tick, count, In, sum, upto}
-use Rattle.seqs.proofs.Base.{tick-yes, tick-no, in-head, in-tail, count-append}
+use Rattle.seqs.proofs.Base.{tick-yes, tick-no, in-head, in-tail}
 
 module _ {A : Type 0} where
   pub sum-on : (d : Discrete A) (f g : A → ℕ) (l : List A) → ((x : A) → In d x l → f x ≡ g x) → sum f l ≡ sum g l

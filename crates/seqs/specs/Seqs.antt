@@ -1,6 +1,5 @@
 -- The functions on lists that every crate shares: insertion, removal, index, count, sum; updates of functions; rising orders.
 -- Assumes nothing: these are definitions.
-use mathlib.Core.Path.{_≡_}
 use mathlib.Core.Logic.{ite}
 use mathlib.Core.Bool.{Bool, true, false}
 use mathlib.Core.HLevel.{Discrete}

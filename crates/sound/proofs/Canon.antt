@@ -15,7 +15,6 @@ use Rattle.seqs.proofs.Base.{tick-yes, rises-once}
 use Rattle.places.proofs.Cut.{zero-or}
 use Rattle.table.specs.Table as T
 use Rattle.linked_list.specs.Links.{Links, Linked, lists}
-use Rattle.arena.specs.Packed.{Packed}
 use Rattle.arena.proofs.Canonical.{canonical}
 use Rattle.context.specs.declared.Layout.{Layout}
 use Rattle.context.specs.Layout.{capOf, ncOf, nnOf, sizes, total, kindPart, famPart}

@@ -17,7 +17,7 @@ use Rattle.places.proofs.Determined.{Blank, same-tables}
 use Rattle.places.proofs.SameStore.{Spare, same-store, same-uses}
 use Rattle.context.specs.declared.Layout.{Layout}
 use Rattle.context.specs.Layout.{sizes, total}
-use Rattle.context.specs.Memory.{part, partsOf, stateOf, Well, SoundStore}
+use Rattle.context.specs.Memory.{partsOf, stateOf, Well, SoundStore}
 use Rattle.context.specs.Performed.{abs, Performed}
 use Rattle.sound.proofs.Canon.{Small, lookup-none, store-canonical}
 

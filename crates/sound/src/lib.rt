@@ -1,8 +1,5 @@
 // The check of one lent buffer: each part by itself, then what the parts say of each other.
 use context::Layout;
-ghost use mathlib.Core.Path.{_≡_};
-ghost use Prim.Native.Nat.{_≤_};
-ghost use lib.ListN.{length};
 ghost use Rattle.seqs.specs.Seqs.{Says};
 ghost use Rattle.places.specs.Store.{Sound};
 ghost use Rattle.context.specs.Memory.{layoutOf, stateOf, Well, SoundStore};

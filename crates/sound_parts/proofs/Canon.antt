@@ -1,17 +1,17 @@
 -- The lists fix the slice; a dead thing's lists are empty. Assumes nothing.
-use mathlib.Core.Path.{_≡_, refl, sym, ap, _∙_, subst}
+use mathlib.Core.Path.{_≡_, refl, sym, _∙_, subst}
 use mathlib.Core.Logic.{by-cases}
-use mathlib.Core.List.{List, []}
+use mathlib.Core.List.{List}
 use native.Mathlib.Decide.{decLt}
 use native.Mathlib.Omega.{arith}
-use Prim.Native.Nat.{ℕ, zero, suc, _+_, _-_, _*_, _<_, _≤_}
+use Prim.Native.Nat.{ℕ, zero, suc, _+_, _-_, _*_, _<_}
 use lib.ListN.{length, getD}
 use lib.Seq.{ext-getD}
 use Rattle.places.specs.Store.{Fam}
-use Rattle.linked_list.specs.Links.{at, home, Row, Links, Linked}
+use Rattle.linked_list.specs.Links.{at, Links}
 use Rattle.linked_list.proofs.Laws.{at-end}
 use Rattle.linked_list.proofs.Getters.{cells, tail-is}
-use Rattle.sound_parts.specs.Cross.{Cells, conts, Holder, Crossed}
+use Rattle.sound_parts.specs.Cross.{conts, Holder, Crossed}
 use Rattle.sound_parts.specs.Memory.{Mem, rowAt, cellsOf, Formed}
 
 module _ (nc nn : ℕ) (s s′ : List ℕ) (ls : List (List ℕ)) (K : Links nc nn s ls) (K′ : Links nc nn s′ ls) where

@@ -1,22 +1,21 @@
 -- The tests across the parts say exactly that the store is sound. Assumes nothing.
 use mathlib.Core.Path.{_≡_, refl, sym, ap, _∙_, subst}
-use mathlib.Core.Logic.{_≢_, _↔_, ite, if-pos, if-neg, by-cases, _⊎_, inl, inr, ⊎-elim}
-use mathlib.Core.Bool.{Bool, true, false}
+use mathlib.Core.Logic.{_≢_, _↔_, if-pos, if-neg, by-cases}
 use mathlib.Core.List.{List, [], _∷_, map}
 use mathlib.Core.Option.{Option, none, some}
 use native.Mathlib.Decide.{ℕ-discrete, decLt}
 use native.Mathlib.Omega.{arith}
-use Prim.Native.Nat.{ℕ, zero, suc, _+_, _-_, _*_, _/_, _%_, _<_, _≤_}
+use Prim.Native.Nat.{ℕ, zero, suc, _-_, _/_, _%_, _<_, _≤_}
 use lib.ListN.{length, length-map}
-use Rattle.seqs.specs.Seqs.{tick, count, In}
-use Rattle.places.specs.Store.{Kind, Kind-dec, op, blk, reg, val, usg, Role, operands, successors, valueUses, blockUses, results, arguments, regions, ops, blocks, Fam, slots, useSets, vals, regs, opsIn, blocksIn, fam, nodeOf, holderOf, Limited, of-operands, of-successors, of-results, of-arguments, of-regions, Thing, Thing-dec, Con, Con-dec, State, alive, Live, Tab, owns, Link, nest, outer, upBy, up, Ends, Linked, Fit, operand, successor, UseHeld, Placed, Sound}
-use Rattle.places.specs.Parts.{Parts, Rows, places, tableOf, nodeIn, conOf, store, rowsOf}
+use Rattle.seqs.specs.Seqs.{tick, count}
+use Rattle.places.specs.Store.{Kind, Kind-dec, op, blk, reg, val, usg, Role, operands, successors, valueUses, blockUses, results, arguments, regions, ops, blocks, Fam, slots, useSets, vals, regs, opsIn, blocksIn, fam, nodeOf, holderOf, Limited, of-operands, of-successors, of-results, of-arguments, of-regions, Thing, Thing-dec, Con, Con-dec, State, alive, Live, owns, Link, outer, up, Ends, Fit, operand, successor, UseHeld, Placed}
+use Rattle.places.specs.Parts.{Parts, Rows, nodeIn, conOf, store, rowsOf}
 use Rattle.seqs.proofs.Base.{tick-yes, tick-no}
 use Rattle.places.proofs.Steps.{some-inj, some-none}
 use Rattle.seqs.proofs.Sums.{count-map, count-none}
 use Rattle.places.proofs.Rows.{node-in}
-use Rattle.places.proofs.Fuel.{bind, parent, more, endsBy, endsBy-ends, climbs}
-use Rattle.sound_parts.specs.Cross.{Cells, conts, Holder, Node, Must, FitAt, stepUp, climbBy, endsAt, Crossed, codeOf, sits, Reads, SoundBy}
+use Rattle.places.proofs.Fuel.{bind, more, endsBy, endsBy-ends, climbs}
+use Rattle.sound_parts.specs.Cross.{Cells, conts, Holder, Node, FitAt, stepUp, endsAt, Crossed, codeOf, sits, Reads, SoundBy}
 
 -- ---- a container's role and holder, by cases
 

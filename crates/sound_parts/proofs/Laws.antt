@@ -2,18 +2,18 @@
 use mathlib.Core.Path.{_≡_, refl, sym, ap, _∙_, subst}
 use mathlib.Core.Logic.{by-cases}
 use mathlib.Core.Bool.{Bool, true, false}
-use mathlib.Core.List.{List, []}
+use mathlib.Core.List.{List}
 use native.Mathlib.Decide.{ℕ-discrete}
 use native.Mathlib.Omega.{arith}
-use Prim.Native.Nat.{ℕ, zero, suc, _+_, _-_, _*_, _/_, _%_, _<_, _≤_}
+use Prim.Native.Nat.{ℕ, zero, suc, _+_, _-_, _*_, _<_, _≤_}
 use lib.ListN.{length, getD}
-use Rattle.table.specs.Table.{Says, stamp}
-use Rattle.linked_list.specs.Links.{home, at, lists, Linked}
+use Rattle.table.specs.Table.{Says}
+use Rattle.linked_list.specs.Links.{home, at, Linked}
 use Rattle.linked_list.proofs.Laws.{at-lt}
 use Rattle.linked_list.proofs.View.{seat}
 use Rattle.linked_list.proofs.Getters.{at-ne, at-nil}
-use Rattle.sound_parts.specs.Cross.{stepUp, climbBy}
-use Rattle.sound_parts.specs.Tests.{UseAt, SlotsAt, Slots, row, climb}
+use Rattle.sound_parts.specs.Cross.{stepUp}
+use Rattle.sound_parts.specs.Tests.{UseAt, SlotsAt, row, climb}
 
 -- the container of a node is one of the containers
 pub home-le : (nc nn : ℕ) (s : List ℕ) → Linked nc nn s → (q : ℕ) → q < nn → getD s (home nc nn q) 0 ≤ nc

@@ -1,22 +1,22 @@
 -- The slices are read as the store's parts. Assumes nothing.
 use mathlib.Core.Path.{_≡_, refl, sym, ap, _∙_, subst}
-use mathlib.Core.Logic.{_≢_, _↔_, by-cases, _⊎_, inl, inr, ⊎-elim}
-use mathlib.Core.List.{List, [], _∷_, _++_, map}
+use mathlib.Core.Logic.{_≢_, _↔_, by-cases}
+use mathlib.Core.List.{List, [], _∷_, _++_}
 use native.Mathlib.Decide.{ℕ-discrete, decLt}
 use native.Mathlib.Omega.{arith}
-use Prim.Native.Nat.{ℕ, zero, suc, _+_, _-_, _*_, _<_, _≤_}
+use Prim.Native.Nat.{ℕ, zero, suc, _+_, _-_, _<_, _≤_}
 use lib.ListN.{length, getD, length-map, length-append, List·getD-eq-default}
 use Rattle.seqs.specs.Seqs.{upd, tick, count, In, Rises}
-use Rattle.places.specs.Store.{Kind, op, Fam, Tab}
-use Rattle.places.specs.Parts.{Book, Parts, lookup, places, tableOf, nodeIn}
-use Rattle.seqs.proofs.Base.{upd-at, upd-other, tick-yes, tick-no, tick-pos, count-append, map-append, rises-snoc, rises-on}
+use Rattle.places.specs.Store.{op, Tab}
+use Rattle.places.specs.Parts.{lookup, places, tableOf}
+use Rattle.seqs.proofs.Base.{upd-at, upd-other, tick-yes, tick-no, count-append, map-append, rises-snoc, rises-on}
 use Rattle.places.proofs.Bridge.{lookup-new}
 use Rattle.table.specs.Table.{Table, stamp, order, live, entry, tab}
 use Rattle.table.specs.Table as T
-use Rattle.linked_list.specs.Links.{at, Row, Links, Linked, lists, home}
+use Rattle.linked_list.specs.Links.{at, Linked, lists, home}
 use Rattle.linked_list.proofs.Laws.{at-inj, at-lt}
-use Rattle.linked_list.proofs.View.{find, seat, Seat}
-use Rattle.sound_parts.specs.Cross.{Cells, conts, Crossed, sits, Reads, SoundBy}
+use Rattle.linked_list.proofs.View.{seat, Seat}
+use Rattle.sound_parts.specs.Cross.{sits, Reads}
 use Rattle.sound_parts.specs.Memory.{Mem, nc, nn, cellsOf, partsOf, Formed, Checked, SoundMem}
 use Rattle.sound_parts.proofs.Cross.{crossed-iff}
 

@@ -1,14 +1,14 @@
 -- What the three groups of tests find is what is asked across the parts. Assumes nothing.
-use mathlib.Core.Path.{_≡_, refl, sym, ap, _∙_}
-use mathlib.Core.List.{List, []}
+use mathlib.Core.Path.{_≡_, refl}
+use mathlib.Core.List.{List}
 use native.Mathlib.Omega.{arith}
-use Prim.Native.Nat.{ℕ, zero, suc, _+_, _-_, _*_, _/_, _%_, _<_, _≤_}
-use lib.ListN.{length, getD}
-use Rattle.places.specs.Store.{Kind, op, blk, reg, val, usg, Fam, slots, useSets, vals, regs, opsIn, blocksIn}
+use Prim.Native.Nat.{ℕ, zero, suc, _+_, _*_, _/_, _<_}
+use lib.ListN.{getD}
+use Rattle.places.specs.Store.{op, usg, Fam, slots, useSets, vals, regs, opsIn, blocksIn}
 use Rattle.places.specs.Parts.{nodeIn}
-use Rattle.linked_list.specs.Links.{home, at, lists, Linked}
+use Rattle.linked_list.specs.Links.{home, at, lists}
 use Rattle.linked_list.proofs.View.{seat, Seat}
-use Rattle.sound_parts.specs.Cross.{Cells, Node, Crossed}
+use Rattle.sound_parts.specs.Cross.{Node, Crossed}
 use Rattle.sound_parts.specs.Memory.{Mem, cellsOf, Formed, memOf}
 use Rattle.sound_parts.specs.Tests.{UseAt, SlotsAt, Slots, row, UsesOk, ValsOk, NestOk}
 

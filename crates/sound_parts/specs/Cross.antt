@@ -2,14 +2,13 @@
 use mathlib.Core.Path.{_≡_}
 use mathlib.Core.Logic.{_↔_}
 use mathlib.Core.Bool.{Bool, true, false}
-use mathlib.Core.List.{List, []}
 use mathlib.Core.Option.{Option, none, some}
 use native.Mathlib.Decide.{ℕ-discrete}
 use Prim.Native.Nat.{ℕ, zero, suc, _+_, _-_, _*_, _/_, _%_, _<_, _≤_}
 use lib.ListN.{length}
 use Rattle.seqs.specs.Seqs.{tick, count, In}
 use Rattle.places.specs.Store.{Kind, op, blk, reg, val, usg, Fam, slots, useSets, vals, regs, opsIn, blocksIn, Tab, Sound}
-use Rattle.places.specs.Parts.{Book, Parts, places, tableOf, nodeIn, store, rowsOf}
+use Rattle.places.specs.Parts.{Parts, places, tableOf, nodeIn, store, rowsOf}
 
 -- What the cells say: a place's stamp (0: free), a node's container (0: none, k + 1: the container k), the length of a container's list, an
 -- operation's flags, and how many operations live.

@@ -1,10 +1,9 @@
 -- The parts of a lent store as slices; the cells and the parts that they are; when the store is checked, and when it is sound. Assumes nothing.
-use mathlib.Core.Path.{_≡_}
 use mathlib.Core.List.{List, []}
-use Prim.Native.Nat.{ℕ, zero, suc, _+_, _*_, _<_, _≤_}
+use Prim.Native.Nat.{ℕ}
 use lib.ListN.{length, getD}
-use Rattle.places.specs.Store.{Kind, op, blk, reg, val, usg, Fam, slots, useSets, vals, regs, opsIn, blocksIn, Thing}
-use Rattle.places.specs.Parts.{Book, Parts, nodeIn}
+use Rattle.places.specs.Store.{Kind, op, blk, reg, val, usg, Fam, slots, useSets, vals, regs, opsIn, blocksIn}
+use Rattle.places.specs.Parts.{Parts, nodeIn}
 use Rattle.table.specs.Table as T
 use Rattle.linked_list.specs.Links as L
 use Rattle.sound_parts.specs.Cross.{Cells, conts, Crossed, codeOf, SoundBy}

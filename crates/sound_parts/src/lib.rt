@@ -1,11 +1,11 @@
 // The check of a whole store, over its parts.
 ghost use mathlib.Core.Path.{_≡_};
 ghost use mathlib.Core.Bool.{true, false};
-ghost use Prim.Native.Nat.{ℕ, suc, _+_, _-_, _*_, _/_, _%_, _≤_, _<_};
+ghost use Prim.Native.Nat.{_+_, _-_, _*_, _/_, _%_, _≤_, _<_};
 ghost use lib.ListN.{length, getD};
 ghost use Rattle.table.specs.Table.{Says, stamp};
 ghost use Rattle.linked_list.specs.Links.{Sizes, Linked, home};
-ghost use Rattle.sound_parts.specs.Tests.{Fits, DirectAt, Direct, ForkAt, Fork, MustAt, Must, Short, FlagAt, Flags, UseAt, Slots, climb, ClimbAt, Climbs, Nest, row, UsesIn, UsesOk, ValsIn, ValsOk, NestIn, NestOk};
+ghost use Rattle.sound_parts.specs.Tests.{Fits, DirectAt, Direct, ForkAt, Fork, MustAt, Must, Short, FlagAt, Flags, UseAt, Slots, climb, ClimbAt, Climbs, Nest, UsesIn, UsesOk, ValsIn, ValsOk, NestIn, NestOk};
 
 fn wide(x: u32) -> usize
     ensures { λ r. ⌜ r ≡ x ⌝ }

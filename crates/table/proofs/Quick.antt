@@ -6,10 +6,10 @@ use native.Mathlib.Decide.{ℕ-discrete, decLt}
 use native.Mathlib.Omega.{arith}
 use native.Mathlib.Numerals.{add-one}
 use Prim.Native.Nat.{ℕ, zero, suc, _+_, _-_, _<_, _≤_}
-use lib.ListN.{length, getD, length-append}
+use lib.ListN.{length, length-append}
 use Rattle.seqs.specs.Seqs.{tick, count, In, sum}
 use Rattle.seqs.proofs.Base.{tick-yes, tick-no, count-append, in-head, in-tail}
-use Rattle.seqs.proofs.Sums.{length-count, sum-one}
+use Rattle.seqs.proofs.Sums.{length-count}
 use Rattle.table.specs.Table.{Ordered, Placed, order, stamp, taken, sign}
 use Rattle.table.specs.Table as T
 

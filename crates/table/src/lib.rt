@@ -2,9 +2,9 @@
 // order, which is the live places by rising birth number and then 0; and each place's stamp, its birth number + 1, or 0 where it is free.
 use bits::Found;
 ghost use mathlib.Core.Path.{_≡_};
-ghost use Prim.Native.Nat.{ℕ, _+_, _-_, _≤_, _<_};
+ghost use Prim.Native.Nat.{_+_, _-_, _≤_, _<_};
 ghost use lib.ListN.{length, getD, set};
-ghost use Rattle.table.specs.Table.{Table, Shape, Ordered, Placed, Rested, Says, Rank, Bracket, Born, Ended, Closed, Shifted, Started, next, count, order, stamp, live, findIn, sign};
+ghost use Rattle.table.specs.Table.{Table, Shape, Ordered, Placed, Rested, Says, Rank, Bracket, Born, Ended, Closed, Shifted, Started, next, order, stamp, live, findIn, sign};
 
 fn wide(x: u32) -> usize
     ensures { λ r. ⌜ r ≡ x ⌝ }

@@ -1,9 +1,8 @@
 -- Push and insert, each way out. Assumes nothing.
 use mathlib.Core.Path.{_≡_, refl, sym, ap, ap₂, _∙_, subst}
-use mathlib.Core.Logic.{_≢_, ite}
+use mathlib.Core.Logic.{_≢_}
 use mathlib.Core.List.{List, [], _∷_}
-use Prim.Native.Nat.{ℕ, zero, suc, _+_, _-_, _*_, _≤_, _<_}
-use native.Mathlib.Decide.{decLt}
+use Prim.Native.Nat.{ℕ, _≤_, _<_}
 use native.Mathlib.Omega.{arith}
 use lib.Dec.{leb, ltb}
 use lib.ListN.{length}
@@ -14,10 +13,9 @@ use Rattle.edit.specs.declared.Answer.the-variants.{Accepted, Refused}
 use Rattle.rules.specs.State.{accept}
 use Rattle.rules.specs.Refusal.{Name, member-named, named, check, refusal-of}
 use Rattle.rules.specs.Step.{answer}
-use Rattle.places.specs.Store.{val, vals, Con, State, Live, birth, enter}
+use Rattle.places.specs.Store.{val, vals, Con, State, birth, enter}
 use Rattle.places.specs.Parts.{store}
 use Rattle.places.specs.Hist.{meaning}
-use Rattle.places.specs.View.{num}
 use Rattle.places.specs.Roles.{Unnamed, missingCode, valueRole, memberKind}
 use Rattle.places.specs.Settled.{Settles}
 use Rattle.places.proofs.RuleValues.{insert-value-accept, push-value-accept}

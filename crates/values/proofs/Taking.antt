@@ -1,9 +1,9 @@
 -- Remove and pop, each way out. Assumes nothing.
 use mathlib.Core.Path.{_≡_, refl, sym, ap, ap₂, _∙_, subst}
 use mathlib.Core.Logic.{_≢_}
-use mathlib.Core.Bool.{Bool, true, false}
-use mathlib.Core.List.{List, [], _∷_, map}
-use Prim.Native.Nat.{ℕ, zero, suc, _+_, _-_, _≤_, _<_}
+use mathlib.Core.Bool.{Bool}
+use mathlib.Core.List.{List, [], _∷_}
+use Prim.Native.Nat.{ℕ, _-_, _≤_, _<_}
 use native.Mathlib.Omega.{arith}
 use lib.Dec.{leb, eqb, ltb}
 use lib.ListN.{length, getD}
@@ -14,17 +14,15 @@ use Rattle.edit.specs.declared.Answer.the-variants.{Accepted, Refused}
 use Rattle.rules.specs.State.{accept}
 use Rattle.rules.specs.Refusal.{member-named, named, check, value-used, refusal-of}
 use Rattle.rules.specs.Step.{answer}
-use Rattle.places.specs.Store.{val, valueUses, vals, Thing, Con, State, alive, Live, end, leave}
+use Rattle.places.specs.Store.{val, valueUses, vals, Thing, Con, State, end, leave}
 use Rattle.places.specs.Hist.{meaning}
-use Rattle.places.specs.View.{num}
 use Rattle.places.specs.Roles.{valueRole, memberKind}
 use Rattle.places.specs.Settled.{Settles}
-use Rattle.places.proofs.Steps.{alive-ended}
 use Rattle.places.proofs.RuleValues.{value-own, value-there, value-number, remove-value-accept, pop-value-accept}
 use Rattle.places.proofs.RuleValueCodes.{owner-there, remove-value-code, pop-value-code, used-is}
 use Rattle.places.proofs.Settling.{settles-finish}
 use Rattle.context.specs.declared.Layout.{Layout}
-use Rattle.context.specs.Memory.{con, stateOf, SoundStore, LengthIs}
+use Rattle.context.specs.Memory.{stateOf, SoundStore, LengthIs}
 use Rattle.context.specs.Performed.{Performed}
 use Rattle.values.specs.Look.{ValuesAt, TakenValue}
 use Rattle.context.proofs.Performing.{refuses, accepts}

@@ -1,17 +1,16 @@
 -- An edit that names one thing, put to a sound store: refused where the name is dead, and else as the rules say. Assumes nothing.
-use mathlib.Core.Path.{_≡_, refl, sym, ap, ap₂, _∙_, subst}
-use mathlib.Core.Logic.{_≢_}
-use mathlib.Core.Bool.{Bool, true, false, cond}
-use mathlib.Core.List.{List, [], _∷_, _++_}
+use mathlib.Core.Path.{_≡_, refl, sym, ap, _∙_, subst}
+use mathlib.Core.Bool.{Bool, cond}
+use mathlib.Core.List.{List, [], _∷_}
 use native.Mathlib.Decide.{ℕ-discrete}
 use native.Mathlib.Omega.{arith}
-use Prim.Native.Nat.{ℕ, zero, suc, _+_, _-_, _<_, _≤_}
+use Prim.Native.Nat.{ℕ, suc, _+_, _≤_}
 use lib.Dec.{eqb}
 use lib.ListN.{length}
 use Rattle.places.specs.Store.{Kind, op, blk, reg, val, usg, Thing, State, Live, Sound}
 use Rattle.places.specs.View.{num, view}
 use Rattle.places.specs.Hist.{hist, ruleState, meaning, thing-named, theThing}
-use Rattle.places.specs.Alias.{RThing, RState}
+use Rattle.places.specs.Alias.{RState}
 use Rattle.places.specs.Walk.{among, dropList, dropped}
 use Rattle.places.specs.Settled.{Settles}
 use Rattle.edit.specs.Record.{Edit, drop-uses, the-operation, the-block, the-region}
@@ -20,7 +19,7 @@ use Rattle.edit.specs.declared.Answer.{Answer}
 use Rattle.edit.specs.declared.Answer.the-variants.{Accepted, Refused}
 use Rattle.rules.specs.History.{History}
 use Rattle.rules.specs.State.{accept}
-use Rattle.rules.specs.Refusal.{Name, check, or-else, missing, first-missing, named, from-state, refusal-of}
+use Rattle.rules.specs.Refusal.{check, or-else, missing, first-missing, named, from-state, refusal-of}
 use Rattle.rules.specs.Refusal as R
 use Rattle.rules.specs.Step.{answer, perform}
 use Rattle.seqs.proofs.Base.{tick-no}

@@ -1,15 +1,15 @@
 -- The loops that drop what lies in a thing: their beginning, a turn, and their end, on the store by places. Assumes nothing.
 use mathlib.Core.Path.{_≡_, refl, sym, ap, ap₂, _∙_, subst}
-use mathlib.Core.Logic.{_≢_, ⊎-elim}
+use mathlib.Core.Logic.{⊎-elim}
 use mathlib.Core.List.{List, [], _∷_, _++_}
-use mathlib.Core.Option.{Option, none, some}
+use mathlib.Core.Option.{Option}
 use native.Mathlib.Omega.{arith}
-use Prim.Native.Nat.{ℕ, zero, suc, _+_, _-_, _<_, _≤_}
+use Prim.Native.Nat.{ℕ, suc, _+_}
 use lib.ListN.{length}
 use Rattle.seqs.specs.Seqs.{tick, count, In, sum}
-use Rattle.places.specs.Store.{Kind, Kind-dec, op, blk, reg, usg, operands, successors, slots, Thing, Thing-dec, Con, State, Linked, Sound, outer}
-use Rattle.places.specs.Walk.{over, sgn, pick, sift, gather, cutBy, cutAll, among, kids, walk, usesAt, dropList, dropped}
-use Rattle.seqs.proofs.Base.{tick-yes, count-append}
+use Rattle.places.specs.Store.{Kind-dec, op, blk, reg, usg, operands, successors, slots, Thing, Thing-dec, Con, State, Sound, outer}
+use Rattle.places.specs.Walk.{over, sgn, gather, cutBy, cutAll, among, kids, walk, usesAt, dropList, dropped}
+use Rattle.seqs.proofs.Base.{count-append}
 use Rattle.seqs.proofs.Sums.{sum-append}
 use Rattle.places.proofs.Cut.{pick-1, zero-or, sift-none, cut-cut, cut-same, cut-nothing, own-cut-0}
 use Rattle.places.proofs.Nest.{kindCode, count-gather, gather-on}

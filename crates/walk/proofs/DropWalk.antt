@@ -1,15 +1,14 @@
 -- The loops that drop what lies in a thing, in the memory: one law for operation, region and block. Assumes nothing.
-use mathlib.Core.Path.{_≡_, refl, sym, ap, ap₂, _∙_, subst}
-use mathlib.Core.Logic.{_≢_}
+use mathlib.Core.Path.{_≡_, refl, sym, ap, _∙_, subst}
 use mathlib.Core.List.{List, [], _∷_, _++_}
-use mathlib.Core.Option.{Option, none, some}
+use mathlib.Core.Option.{some}
 use native.Mathlib.Omega.{arith}
-use Prim.Native.Nat.{ℕ, zero, suc, _+_, _-_, _*_, _<_, _≤_}
+use Prim.Native.Nat.{ℕ, _+_, _-_, _*_, _<_, _≤_}
 use lib.ListN.{length}
 use Rattle.seqs.specs.Seqs.{tick, count, In, sum}
-use Rattle.places.specs.Store.{Kind, Kind-dec, op, blk, reg, Role, regions, blocks, ops, Fam, regs, opsIn, blocksIn, fam, nodeOf, Thing, Thing-dec, Con, State, Live, Link, Linked, Sound}
+use Rattle.places.specs.Store.{Kind-dec, op, blk, reg, Role, regions, blocks, ops, Fam, regs, opsIn, blocksIn, fam, nodeOf, Thing, Thing-dec, Con, State, Live, Link, Linked, Sound}
 use Rattle.places.specs.Parts.{nodeIn, rowsOf}
-use Rattle.places.specs.Walk.{gather, cutAll, kids, usesAt, dropList, dropped}
+use Rattle.places.specs.Walk.{kids, usesAt, dropList, dropped}
 use Rattle.seqs.proofs.Base.{tick-yes, tick-no, count-append, in-head}
 use Rattle.places.proofs.Steps.{thing-eq, listed}
 use Rattle.places.proofs.Nest.{kindCode}
@@ -23,7 +22,7 @@ use Rattle.walk.specs.declared.Walked.{Walked}
 use Rattle.walk.specs.Drop.{operations, CanDrop, Counted, OwnDropped, Dropped}
 use Rattle.context.proofs.Cursor.{from, from-code, Single, single, kid-live}
 use Rattle.walk.proofs.Nested.{operations-eq}
-use Rattle.walk.proofs.DropLaws.{Going, reached, endedIn, Next, begins, next, reads, steady, same-ops, same-ended, enough, goes-on, more-reached, more-ended, todo-is, ends, all-reached, all-ended, region-own, block-own, own-sound, own-none, own-rest, own-ops, own-ended, after-kids}
+use Rattle.walk.proofs.DropLaws.{Going, reached, endedIn, Next, begins, next, reads, same-ops, enough, goes-on, more-reached, more-ended, ends, all-reached, all-ended, region-own, block-own, own-none, own-rest, own-ops, own-ended, after-kids}
 
 -- ---- what lies directly in a thing is a list of one family
 

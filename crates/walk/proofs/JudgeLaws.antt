@@ -7,30 +7,28 @@ use mathlib.Core.Option.{Option, none, some}
 use native.Mathlib.Decide.{ℕ-discrete, decLt}
 use native.Mathlib.Omega.{arith}
 use Prim.Native.Nat.{ℕ, zero, suc, _+_, _-_, _*_, _/_, _%_, _<_, _≤_}
-use lib.Dec.{eqb, leb}
-use lib.ListN.{length}
-use Rattle.seqs.specs.Seqs.{tick, count, In, lastOf}
-use Rattle.places.specs.Store.{Kind, op, blk, reg, val, usg, Role, operands, successors, valueUses, blockUses, regions, ops, blocks, Fam, slots, useSets, regs, opsIn, blocksIn, fam, nodeOf, Thing, Thing-dec, Con, Con-dec, State, Live, Link, Linked, UseHeld, Sound, outer, up}
+use lib.Dec.{eqb}
+use Rattle.seqs.specs.Seqs.{count, In, lastOf}
+use Rattle.places.specs.Store.{op, blk, reg, val, usg, operands, successors, valueUses, blockUses, regions, ops, Fam, slots, useSets, regs, opsIn, blocksIn, Thing, Thing-dec, Con, Con-dec, State, Live, Link, outer, up}
 use Rattle.places.specs.Parts.{nodeIn, rowsOf, conOf}
 use Rattle.places.specs.View.{num}
-use Rattle.places.specs.Walk.{kids}
 use Rattle.rules.specs.Table.{any, some-and, is-some}
 use Rattle.rules.specs.Verdict.{is-clean}
-use Rattle.edit.specs.Answer.{Reply, clean, refuse, found, numbers-of}
-use Rattle.places.specs.Verdict.{asBool, firstMet, lastThing, follows, heldBy, terminates, lackable, endsWell, namesBlock, leadsTo, strayUser, lostPred, inBlock, blockVerdict, regionVerdict, tooEarly, opVerdict}
+use Rattle.edit.specs.Answer.{Reply, clean, refuse, found}
+use Rattle.places.specs.Verdict.{asBool, firstMet, lastThing, follows, heldBy, terminates, lackable, endsWell, namesBlock, leadsTo, strayUser, lostPred, inBlock, blockVerdict, regionVerdict, tooEarly}
 use Rattle.seqs.proofs.Base.{tick-yes, tick-no, count-append, in-head, in-tail}
 use Rattle.places.proofs.Steps.{some-inj, some-none, thing-eq, listed, once}
 use Rattle.places.proofs.Nest.{isNest, famRole, role-is}
 use Rattle.places.proofs.VerdictWalk.{verdict-eq}
 use Rattle.places.proofs.Bits.{bit-false, bit-eqb}
 use Rattle.context.specs.declared.Layout.{Layout}
-use Rattle.context.specs.Layout.{ncOf, nnOf}
-use Rattle.context.specs.Memory.{con, stateOf, decode, Well, SoundStore, headCode, FirstIs, HomeIs}
-use Rattle.context.specs.Reading.{listOf, lastCode, NextIs, LastIs, TagIs, NumberIs}
+use Rattle.context.specs.Layout.{ncOf}
+use Rattle.context.specs.Memory.{con, stateOf, decode, SoundStore, headCode, HomeIs}
+use Rattle.context.specs.Reading.{listOf, lastCode, NextIs, LastIs, NumberIs}
 use Rattle.context.proofs.Families.{con-back}
 use Rattle.context.proofs.Places.{place<}
-use Rattle.walk.specs.Judge.{onOp, alone, userPlaced, userLeads, UserIs, BlockAlone}
-use Rattle.context.proofs.Cursor.{row, At, Here, here, at-end, next-at, next-todo, Single, single}
+use Rattle.walk.specs.Judge.{onOp, alone, userPlaced, userLeads, UserIs}
+use Rattle.context.proofs.Cursor.{row, single}
 use Rattle.walk.proofs.OwnUses.{con-successors}
 
 -- ---- booleans

@@ -1,5 +1,5 @@
 -- Marks in the scratch: what a walk gives them to, and that a second walk takes them away. Assumes nothing.
-use mathlib.Core.Path.{_≡_, refl, sym, ap, ap₂, _∙_, subst}
+use mathlib.Core.Path.{_≡_, refl, sym, ap, _∙_, subst}
 use mathlib.Core.Logic.{by-cases, ⊎-elim}
 use mathlib.Core.List.{List, [], _∷_, _++_}
 use native.Mathlib.Decide.{ℕ-discrete}
@@ -8,7 +8,7 @@ use Prim.Native.Nat.{ℕ, zero, suc, _+_, _-_, _<_, _≤_}
 use lib.ListN.{length, getD, set, length-set}
 use lib.Seq.{getD-set-same, getD-set-other}
 use Rattle.seqs.specs.Seqs.{count}
-use Rattle.places.specs.Store.{op, Thing, Thing-dec, State, Live}
+use Rattle.places.specs.Store.{op, Thing, Thing-dec, State}
 use Rattle.places.specs.Parts.{nodeIn}
 use Rattle.places.specs.Walk.{pick, sgn, gather, kids}
 use Rattle.seqs.proofs.Base.{tick-yes, tick-no, count-append}
@@ -17,7 +17,7 @@ use Rattle.places.proofs.Nest.{kindCode}
 use Rattle.places.proofs.DropTurn.{append-nil, gather-append}
 use Rattle.context.specs.declared.Layout.{Layout}
 use Rattle.context.specs.Layout.{kindOf, famOf}
-use Rattle.context.specs.Memory.{stateOf, SoundStore, FirstIs}
+use Rattle.context.specs.Memory.{stateOf, FirstIs}
 use Rattle.context.specs.Reading.{NextIs}
 use Rattle.context.proofs.Cursor.{At, first-at, at-end, next-at}
 use Rattle.walk.specs.Erase.{innerCode}

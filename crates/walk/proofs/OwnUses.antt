@@ -1,16 +1,16 @@
 -- The uses of one operation end: its operands, then its successors. Assumes nothing.
-use mathlib.Core.Path.{_≡_, refl, sym, ap, ap₂, _∙_, subst}
-use mathlib.Core.Logic.{_≢_, if-pos, if-neg, by-cases}
-use mathlib.Core.List.{List, [], _∷_, _++_}
+use mathlib.Core.Path.{_≡_, refl, ap, ap₂, _∙_}
+use mathlib.Core.Logic.{if-pos, if-neg, by-cases}
+use mathlib.Core.List.{List}
 use mathlib.Core.Option.{Option, none, some}
 use native.Mathlib.Decide.{ℕ-discrete}
 use native.Mathlib.Omega.{arith}
-use Prim.Native.Nat.{ℕ, zero, suc, _+_, _-_, _*_, _/_, _%_, _<_, _≤_}
+use Prim.Native.Nat.{ℕ, _+_, _-_, _*_, _/_, _%_, _<_, _≤_}
 use lib.ListN.{length}
-use Rattle.seqs.specs.Seqs.{tick, count, In}
-use Rattle.places.specs.Store.{Kind-dec, op, operands, successors, Limited, slots, Thing, Thing-dec, Con, State, Linked, Live, Sound, outer}
+use Rattle.seqs.specs.Seqs.{In}
+use Rattle.places.specs.Store.{Kind-dec, op, operands, successors, Limited, slots, Thing, Thing-dec, Con, State, outer}
 use Rattle.places.specs.Parts.{rowsOf}
-use Rattle.places.specs.Walk.{sift, cutBy, cutAll, among, usesAt}
+use Rattle.places.specs.Walk.{cutBy, cutAll, among, usesAt}
 use Rattle.seqs.proofs.Base.{tick-yes, tick-no, count-append}
 use Rattle.places.proofs.Cut.{sift-all, cut-append}
 use Rattle.places.proofs.Nest.{upTo}
@@ -18,11 +18,11 @@ use Rattle.places.proofs.DropAll.{uses-at}
 use Rattle.places.proofs.DropTurn.{length-append}
 use Rattle.context.specs.declared.Layout.{Layout}
 use Rattle.context.specs.Layout.{ncOf}
-use Rattle.context.specs.Memory.{con, stateOf, SoundStore}
-use Rattle.context.specs.Steps.{slotList, DroppedAll}
+use Rattle.context.specs.Memory.{con, stateOf}
+use Rattle.context.specs.Steps.{DroppedAll}
 use Rattle.context.proofs.Places.{place<}
 use Rattle.walk.specs.declared.Walked.{Walked}
-use Rattle.walk.specs.Drop.{operations, CanDrop, Counted, OwnDropped}
+use Rattle.walk.specs.Drop.{CanDrop, OwnDropped}
 use Rattle.walk.proofs.Nested.{operations-eq}
 
 pub con-operands : (l : Layout) (o : ℕ) → con l slots (2 * o) ≡ (operands, (op, o))

@@ -1,23 +1,23 @@
 -- Searches through one list of the store: for what passes a test, and for the first reply that is not clean. Assumes nothing.
-use mathlib.Core.Path.{_≡_, refl, sym, ap, ap₂, _∙_, subst}
-use mathlib.Core.Bool.{Bool, true, false, not, _&&_, _||_}
-use mathlib.Core.List.{List, [], _∷_, _++_}
+use mathlib.Core.Path.{_≡_, refl, sym, ap, _∙_}
+use mathlib.Core.Bool.{Bool, true, false, not, _&&_}
+use mathlib.Core.List.{List}
 use native.Mathlib.Omega.{arith}
-use Prim.Native.Nat.{ℕ, zero, suc, _+_, _-_, _*_, _<_, _≤_}
+use Prim.Native.Nat.{ℕ, _+_, _-_, _*_}
 use lib.Dec.{eqb}
-use Rattle.places.specs.Store.{op, blk, reg, usg, Role, successors, blockUses, regions, ops, blocks, Fam, slots, useSets, regs, opsIn, blocksIn, Thing, State, Live, Sound}
+use Rattle.places.specs.Store.{op, blk, reg, blockUses, regions, ops, blocks, Fam, slots, useSets, regs, opsIn, blocksIn, Thing, State}
 use Rattle.places.specs.Parts.{nodeIn, rowsOf}
-use Rattle.places.specs.Verdict.{firstMet, heldBy, namesBlock, leadsTo, strayUser, lostPred, blockVerdict, regionVerdict, tooEarly}
+use Rattle.places.specs.Verdict.{firstMet, heldBy, namesBlock, strayUser, lostPred, blockVerdict, regionVerdict}
 use Rattle.rules.specs.Table.{any}
 use Rattle.rules.specs.Verdict.{is-clean}
 use Rattle.edit.specs.Answer.{Reply, clean, refuse, found, numbers-of}
 use Rattle.edit.specs.declared.Answer.{Answer}
 use Rattle.edit.specs.declared.Answer.the-variants.{Accepted, Refused}
 use Rattle.context.specs.declared.Layout.{Layout}
-use Rattle.context.specs.Memory.{con, stateOf, SoundStore, FirstIs}
+use Rattle.context.specs.Memory.{stateOf, SoundStore, FirstIs}
 use Rattle.context.specs.Reading.{NextIs}
 use Rattle.walk.specs.Judge.{onOp, userPlaced, userLeads}
-use Rattle.context.proofs.Cursor.{row, At, Here, first-at, here, at-end, next-at, next-todo}
+use Rattle.context.proofs.Cursor.{row, At, first-at, here, at-end, next-at, next-todo}
 use Rattle.walk.proofs.JudgeLaws.{any-hit, any-miss, any-over, met-hit, met-miss, met-over, targets, users}
 
 pub nay : (b : Bool) → not b ≡ true → b ≡ false

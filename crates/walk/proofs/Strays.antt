@@ -11,7 +11,7 @@ use lib.ListN.{length}
 use borrow.Author.Tests.{eqb-true, eqb-false}
 use Rattle.seqs.specs.Seqs.{sum}
 use mathlib.Core.Option.{Option, some}
-use Rattle.places.specs.Store.{op, blk, reg, val, usg, slots, outer, valueUses, blockUses, results, arguments, useSets, vals, Thing, Con, State, Live, Sound}
+use Rattle.places.specs.Store.{op, blk, reg, val, usg, slots, outer, valueUses, blockUses, results, arguments, useSets, vals, Thing, Con, State, Live}
 use Rattle.places.specs.Parts.{nodeIn, rowsOf}
 use Rattle.places.specs.Walk.{over, pick, sift, gather, kids, walkBy, valuesAt, defSets, markOf, strayAt, strays, straysIn}
 use Rattle.rules.specs.Table.{any}
@@ -19,11 +19,10 @@ use Rattle.places.proofs.Cut.{pick-0, pick-1}
 use Rattle.places.proofs.Nest.{kindCode}
 use Rattle.places.proofs.DropTurn.{list-none, values-op, values-blk}
 use Rattle.context.specs.declared.Layout.{Layout}
-use Rattle.context.specs.Layout.{kindOf, famOf, ncOf, nnOf}
+use Rattle.context.specs.Layout.{kindOf, famOf}
 use Rattle.context.specs.Memory.{con, stateOf, SoundStore}
 use Rattle.context.specs.Reading.{listOf}
 use Rattle.context.proofs.Cursor.{row, At, here}
-use Rattle.context.proofs.Places.{place<}
 use Rattle.walk.specs.Erase.{innerCode}
 use Rattle.walk.specs.Tests.{within, stray, straySet, strayValue, strayThing, DepthIs, Testable, eraseCode}
 use Rattle.walk.proofs.DropWalk.{list-of}

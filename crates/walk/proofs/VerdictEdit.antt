@@ -1,24 +1,23 @@
 -- The edits 42 to 44: a verdict changes nothing, and is the reply. Assumes nothing.
 use mathlib.Core.Path.{_≡_, refl, sym, ap, ap₂, _∙_, subst}
-use mathlib.Core.Bool.{Bool, true, false}
-use mathlib.Core.List.{List, [], _∷_, _++_}
+use mathlib.Core.List.{List, []}
 use native.Mathlib.Omega.{arith}
-use Prim.Native.Nat.{ℕ, zero, suc, _+_, _-_, _<_, _≤_}
+use Prim.Native.Nat.{ℕ, zero, suc, _+_, _≤_}
 use lib.ListN.{length}
-use Rattle.places.specs.Store.{op, blk, reg, val, usg, Thing, State, Live, Sound}
+use Rattle.places.specs.Store.{op, val, Thing, State, Live, Sound}
 use Rattle.places.specs.View.{Rec, num, view}
-use Rattle.places.specs.Hist.{tabled, bornOf, hist, ordersOf, ruleState, meaning, thing-named, theThing}
-use Rattle.places.specs.Alias.{RThing, RState}
-use Rattle.places.specs.Walk.{cutBy, cutAll, among}
+use Rattle.places.specs.Hist.{tabled, hist, ordersOf, ruleState, meaning, thing-named, theThing}
+use Rattle.places.specs.Alias.{RThing}
+use Rattle.places.specs.Walk.{among}
 use Rattle.rules.specs.Table.{Table, keep-keys, number}
 use Rattle.edit.specs.Record.{Edit, verdict}
 use Rattle.edit.specs.Answer.{Reply, refuse, found, numbers-of}
 use Rattle.edit.specs.declared.Answer.{Answer}
 use Rattle.edit.specs.declared.Answer.the-variants.{Accepted, Refused}
 use Rattle.rules.specs.History.{Five, History, zeros, plus, bear, births, carry-out, remember, live-operation, live-value}
-use Rattle.rules.specs.Orders.{Orders, order, reorder}
+use Rattle.rules.specs.Orders.{order, reorder}
 use Rattle.rules.specs.State.{accept, new-flags, new-types}
-use Rattle.rules.specs.Refusal.{named, from-state, refusal-of}
+use Rattle.rules.specs.Refusal.{named, refusal-of}
 use Rattle.rules.specs.Step.{answer}
 use Rattle.places.proofs.Cut.{Closed, cut-nothing}
 use Rattle.places.proofs.Nest.{kindCode}
@@ -28,7 +27,7 @@ use Rattle.places.proofs.RuleTables.{flags-cut, types-cut}
 use Rattle.places.proofs.VerdictWalk.{verdictAt}
 use Rattle.places.proofs.TopRefusals.{verdict-refusal, verdict-answer}
 use Rattle.context.specs.declared.Layout.{Layout}
-use Rattle.context.specs.Memory.{part, stateOf, SoundStore}
+use Rattle.context.specs.Memory.{stateOf, SoundStore}
 use Rattle.context.specs.Performed.{abs, Performed}
 use Rattle.walk.proofs.Asked.{accepted, refused, passes}
 

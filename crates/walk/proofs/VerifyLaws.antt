@@ -1,26 +1,24 @@
 -- The three functions that judge the nest: their loops, and the edits 42 to 44. Assumes nothing.
-use mathlib.Core.Path.{_≡_, refl, sym, ap, ap₂, _∙_, subst}
-use mathlib.Core.Bool.{Bool, true, false, not}
-use mathlib.Core.List.{List, [], _∷_, _++_}
+use mathlib.Core.Path.{_≡_, sym, ap, _∙_}
+use mathlib.Core.Bool.{true, false}
+use mathlib.Core.List.{List, _∷_, _++_}
 use native.Mathlib.Omega.{arith}
-use Prim.Native.Nat.{ℕ, zero, suc, _+_, _-_, _*_, _<_, _≤_}
-use lib.ListN.{length}
-use Rattle.seqs.specs.Seqs.{count, In}
-use Rattle.places.specs.Store.{op, blk, reg, regions, ops, blocks, Fam, regs, opsIn, blocksIn, Thing, Thing-dec, State, Live, Sound}
+use Prim.Native.Nat.{ℕ, _-_, _<_}
+use Rattle.seqs.specs.Seqs.{count}
+use Rattle.places.specs.Store.{op, blk, regions, Fam, regs, opsIn, blocksIn, Thing, Thing-dec, State, Live}
 use Rattle.places.specs.Parts.{nodeIn}
-use Rattle.places.specs.Walk.{kids}
 use Rattle.places.specs.Verdict.{firstMet, blockVerdict, regionVerdict, tooEarly}
 use Rattle.rules.specs.Verdict.{is-clean}
-use Rattle.edit.specs.Answer.{Reply, clean, numbers-of}
+use Rattle.edit.specs.Answer.{Reply, numbers-of}
 use Rattle.edit.specs.declared.Answer.{Answer}
-use Rattle.edit.specs.declared.Answer.the-variants.{Accepted, Refused}
+use Rattle.edit.specs.declared.Answer.the-variants.{Accepted}
 use Rattle.seqs.proofs.Base.{count-append, in-head}
 use Rattle.places.proofs.Runs.{measure, falls}
 use Rattle.context.specs.declared.Layout.{Layout}
-use Rattle.context.specs.Memory.{con, stateOf, SoundStore}
+use Rattle.context.specs.Memory.{stateOf, SoundStore}
 use Rattle.walk.specs.Judge.{onOp, alone, OpJudged, BlockJudged, RegionJudged}
 use Rattle.walk.proofs.DropWalk.{Nests, list-of}
-use Rattle.context.proofs.Cursor.{row, At, Here, here}
+use Rattle.context.proofs.Cursor.{At, here}
 use Rattle.walk.proofs.JudgeLaws.{block-not, block-then, op-not, op-then}
 use Rattle.walk.proofs.Search.{Meeting, met, none-met, nothing, regions-row, ops-row, region-is}
 

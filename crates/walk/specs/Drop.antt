@@ -2,7 +2,7 @@
 -- Assumes nothing: these are definitions.
 use mathlib.Core.Path.{_≡_}
 use mathlib.Core.List.{List}
-use Prim.Native.Nat.{ℕ, zero, suc, _+_, _*_, _≤_, _<_}
+use Prim.Native.Nat.{ℕ, _+_, _*_, _≤_, _<_}
 use lib.ListN.{length}
 use Rattle.seqs.specs.Seqs.{tick, sum}
 use Rattle.places.specs.Store.{Kind-dec, op, Thing, State, Live}

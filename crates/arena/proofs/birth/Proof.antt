@@ -1,24 +1,19 @@
 -- A birth, in both parts. Assumes nothing.
-use mathlib.Core.Path.{_≡_, refl, sym, ap, _∙_, subst, subst₂}
+use mathlib.Core.Path.{_≡_, sym, ap, _∙_, subst, subst₂}
 use mathlib.Core.List.{List, _++_}
-use Prim.Native.Nat.{ℕ, _+_, _-_, _≤_, _<_}
+use Prim.Native.Nat.{ℕ, _-_, _≤_}
 use native.Mathlib.Omega.{arith}
 use borrow.Author.Needs.{needs}
 use lib.ListN.{length, take, drop, length-drop}
-use Rattle.bits.specs.Map.{bit, lowest, Flipped}
-use Rattle.table.specs.Table.{Table, Born, Ended, stamp}
-use Rattle.arena.specs.Packed.{front, back, cells, words}
+use Rattle.bits.specs.Map.{Flipped}
+use Rattle.table.specs.Table.{Born, stamp}
+use Rattle.arena.specs.Packed.{front, cells}
 use Rattle.bits.proofs.Lowest.{Low, low-at}
 use Rattle.table.proofs.Laws.{has-free}
 use Rattle.arena.proofs.Parts.{tail-kept, front-now, back-now, long-now}
 use Rattle.arena.proofs.Marks.{bore}
 use Rattle.arena.proofs.birth.Statement.{statement}
 use Rattle.arena.proofs.birth.Tie as tie
-use Rattle.arena.proofs.birth.Reads as reads
-use Rattle.arena.proofs.birth.Lts as lts
-use Rattle.bits.proofs.flip.Reads as flip-reads
-use Rattle.arena.proofs.free_place.Reads as free-place-reads
-use Rattle.table.proofs.birth_at.Reads as birth-at-reads
 
 -- the place found is free
 low : (c : tie.After-f) → Low (stamp (c .before .before .before .before .before .args .n) (front (c .before .before .before .before .before .args .n) (c .before .before .before .before .before .args .m .now))) (c .before .before .before .before .before .args .n) (c .f .given .0 .0)

@@ -1,7 +1,7 @@
 -- The whole check. Assumes nothing.
-use mathlib.Core.Path.{_≡_, refl, sym, ap, _∙_}
+use mathlib.Core.Path.{_≡_, sym, ap}
 use mathlib.Core.List.{List}
-use Prim.Native.Nat.{ℕ, _+_, _-_, _*_, _≤_, _<_}
+use Prim.Native.Nat.{ℕ, _+_, _-_}
 use native.Mathlib.Omega.{arith}
 use borrow.Author.Needs.{needs}
 use lib.ListN.{length, take, drop, length-drop}
@@ -13,11 +13,6 @@ use Rattle.arena.proofs.Parts.{tail-is}
 use Rattle.arena.proofs.Marks.{packed-of, agree-of, spare-of}
 use Rattle.arena.proofs.check.Statement.{statement}
 use Rattle.arena.proofs.check.Tie as tie
-use Rattle.arena.proofs.check.Reads as reads
-use Rattle.arena.proofs.check.Lts as lts
-use Rattle.arena.proofs.check_marks.Reads as check-marks-reads
-use Rattle.arena.proofs.check_spare.Reads as check-spare-reads
-use Rattle.table.proofs.check_table.Reads as check-table-reads
 
 -- past the test of the length
 size : (c : tie.Else2) → length (c .before .before .before .args .m .now) ≡ cells (c .before .before .before .args .n) + words (c .before .before .before .args .n)

@@ -1,6 +1,6 @@
 -- The loop's invariant: the bits of the places so far agree with the stamps. Assumes nothing.
 use mathlib.Core.Path.{_≡_, sym, ap, _∙_}
-use Prim.Native.Nat.{ℕ, _+_, _-_, _≤_, _<_}
+use Prim.Native.Nat.{ℕ, _-_, _<_}
 use native.Mathlib.Omega.{arith}
 use borrow.Author.Needs.{needs}
 use borrow.Author.Count.{below-more}
@@ -8,11 +8,6 @@ use Rattle.bits.specs.Map.{bit}
 use Rattle.table.specs.Table.{stamp, sign}
 use Rattle.arena.proofs.check_marks.Statement.{statement}
 use Rattle.arena.proofs.check_marks.Tie as tie
-use Rattle.arena.proofs.check_marks.Reads as reads
-use Rattle.arena.proofs.check_marks.Lts as lts
-use Rattle.bits.proofs.mark.Reads as mark-reads
-use Rattle.table.proofs.sign_of.Reads as sign-of-reads
-use Rattle.table.proofs.stamp_at.Reads as stamp-at-reads
 
 abbrev Inv-loop : tie.InvT-loop
 Inv-loop t b n p₀ p = (q : ℕ) → q < p → bit b q ≡ sign (stamp n t q)

@@ -1,19 +1,15 @@
 -- No mark from n on, so far. Assumes nothing.
 use mathlib.Core.Path.{_≡_, sym, ap, _∙_}
 use mathlib.Core.Logic.{⊎-elim}
-use Prim.Native.Nat.{ℕ, _+_, _-_, _*_, _≤_, _<_}
+use Prim.Native.Nat.{ℕ, _-_, _*_, _≤_, _<_}
 use native.Mathlib.Nat.{eq-or-lt-of-le}
 use native.Mathlib.Omega.{arith}
 use borrow.Author.Needs.{needs}
 use lib.ListN.{length}
 use Rattle.bits.specs.Map.{bit}
 use Rattle.bits.proofs.Digits.{le-or-lt, bit-past}
-use Rattle.arena.specs.Packed.{Spare}
 use Rattle.arena.proofs.check_spare.Statement.{statement}
 use Rattle.arena.proofs.check_spare.Tie as tie
-use Rattle.arena.proofs.check_spare.Reads as reads
-use Rattle.arena.proofs.check_spare.Lts as lts
-use Rattle.bits.proofs.mark.Reads as mark-reads
 
 abbrev Inv-loop : tie.InvT-loop
 Inv-loop b n p₀ p = (n ≤ p) × ((q : ℕ) → n ≤ q → q < p → bit b q ≡ 0)

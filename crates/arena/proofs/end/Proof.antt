@@ -1,21 +1,17 @@
 -- An end, in both parts. Assumes nothing.
-use mathlib.Core.Path.{_≡_, refl, sym, ap, _∙_, subst, subst₂}
+use mathlib.Core.Path.{_≡_, sym, subst, subst₂}
 use mathlib.Core.List.{List, _++_}
-use Prim.Native.Nat.{ℕ, _+_, _-_, _≤_, _<_}
+use Prim.Native.Nat.{ℕ, _-_, _≤_}
 use native.Mathlib.Omega.{arith}
 use borrow.Author.Needs.{needs}
-use lib.ListN.{length, take, drop, length-drop}
-use Rattle.bits.specs.Map.{bit, lowest, Flipped}
-use Rattle.table.specs.Table.{Table, Born, Ended, stamp}
-use Rattle.arena.specs.Packed.{front, back, cells, words}
+use lib.ListN.{length, take, drop}
+use Rattle.bits.specs.Map.{Flipped}
+use Rattle.table.specs.Table.{Ended}
+use Rattle.arena.specs.Packed.{front, cells}
 use Rattle.arena.proofs.Parts.{tail-kept, front-now, back-now, long-now}
 use Rattle.arena.proofs.Marks.{gone}
 use Rattle.arena.proofs.end.Statement.{statement}
 use Rattle.arena.proofs.end.Tie as tie
-use Rattle.arena.proofs.end.Reads as reads
-use Rattle.arena.proofs.end.Lts as lts
-use Rattle.bits.proofs.flip.Reads as flip-reads
-use Rattle.table.proofs.end.Reads as end-reads
 
 add-a : tie.Need-add-a
 add-a c = search needs

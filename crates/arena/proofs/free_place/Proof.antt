@@ -1,20 +1,14 @@
 -- The map says which places are free. Assumes nothing.
-use mathlib.Core.Path.{_≡_, refl, sym, ap, _∙_, subst, subst₂}
-use mathlib.Core.List.{List, _++_}
-use Prim.Native.Nat.{ℕ, _+_, _-_, _≤_, _<_}
-use native.Mathlib.Omega.{arith}
+use mathlib.Core.Path.{ap, _∙_}
+use mathlib.Core.List.{List}
+use Prim.Native.Nat.{ℕ}
 use borrow.Author.Needs.{needs}
-use lib.ListN.{length, take, drop, length-drop}
-use Rattle.bits.specs.Map.{bit, lowest, Flipped}
-use Rattle.table.specs.Table.{Table, Born, Ended, stamp}
-use Rattle.arena.specs.Packed.{front, back, cells, words}
+use Rattle.bits.specs.Map.{bit, lowest}
+use Rattle.arena.specs.Packed.{cells}
 use Rattle.arena.proofs.Parts.{tail-is}
 use Rattle.arena.proofs.Marks.{lowest-sign}
 use Rattle.arena.proofs.free_place.Statement.{statement}
 use Rattle.arena.proofs.free_place.Tie as tie
-use Rattle.arena.proofs.free_place.Reads as reads
-use Rattle.arena.proofs.free_place.Lts as lts
-use Rattle.bits.proofs.lowest_free.Reads as lowest-free-reads
 
 add-a : tie.Need-add-a
 add-a c = search needs

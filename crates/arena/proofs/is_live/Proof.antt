@@ -4,9 +4,6 @@ use Rattle.table.proofs.Live.{live-stamp, stamp-live}
 use borrow.Author.Needs.{needs}
 use Rattle.arena.proofs.is_live.Statement.{statement}
 use Rattle.arena.proofs.is_live.Tie as tie
-use Rattle.arena.proofs.is_live.Reads as reads
-use Rattle.arena.proofs.is_live.Lts as lts
-use Rattle.table.proofs.stamp_at.Reads as stamp-at-reads
 
 returns : tie.Need-returns
 returns c = λ h. omega (arith, live-stamp (c .before .before .pre .table) _ h .0)

@@ -4,9 +4,6 @@ use Rattle.table.proofs.Live.{live-nth}
 use borrow.Author.Needs.{needs}
 use Rattle.arena.proofs.nth_live.Statement.{statement}
 use Rattle.arena.proofs.nth_live.Tie as tie
-use Rattle.arena.proofs.nth_live.Reads as reads
-use Rattle.arena.proofs.nth_live.Lts as lts
-use Rattle.table.proofs.order_at.Reads as order-at-reads
 
 add-a : tie.Need-add-a
 add-a c = search needs

@@ -5,9 +5,6 @@ use Rattle.table.proofs.Live.{live-stamp, live-number}
 use borrow.Author.Needs.{needs}
 use Rattle.arena.proofs.number_at.Statement.{statement}
 use Rattle.arena.proofs.number_at.Tie as tie
-use Rattle.arena.proofs.number_at.Reads as reads
-use Rattle.arena.proofs.number_at.Lts as lts
-use Rattle.table.proofs.stamp_at.Reads as stamp-at-reads
 
 add-a : tie.Need-add-a
 add-a c = search needs

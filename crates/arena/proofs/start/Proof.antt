@@ -1,22 +1,18 @@
 -- A start, in both parts. Assumes nothing.
-use mathlib.Core.Path.{_≡_, refl, sym, ap, _∙_, subst, subst₂}
+use mathlib.Core.Path.{_≡_, sym, _∙_, subst}
 use mathlib.Core.List.{List, _++_}
-use Prim.Native.Nat.{ℕ, _+_, _-_, _≤_, _<_}
+use Prim.Native.Nat.{ℕ, _-_, _≤_}
 use native.Mathlib.Omega.{arith}
 use borrow.Author.Needs.{needs}
-use lib.ListN.{length, take, drop, length-drop}
+use lib.ListN.{length, take, drop}
 use lib.Seq.{length-take-le}
 use Rattle.bits.specs.Map.{bit}
 use Rattle.table.specs.Table.{Started}
 use Rattle.arena.specs.Packed.{cells}
 use Rattle.arena.proofs.Marks.{fresh}
-use Rattle.arena.proofs.Parts.{tail-kept, front-now, back-now, long-now}
+use Rattle.arena.proofs.Parts.{front-now, back-now, long-now}
 use Rattle.arena.proofs.start.Statement.{statement}
 use Rattle.arena.proofs.start.Tie as tie
-use Rattle.arena.proofs.start.Reads as reads
-use Rattle.arena.proofs.start.Lts as lts
-use Rattle.bits.proofs.clear.Reads as clear-reads
-use Rattle.table.proofs.start.Reads as start-reads
 
 add-a : tie.Need-add-a
 add-a c = search needs

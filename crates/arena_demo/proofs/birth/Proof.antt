@@ -4,13 +4,6 @@ use Rattle.table.proofs.Laws.{says-yes}
 use Rattle.arena.specs.Packed.{Packed}
 use Rattle.arena_demo.proofs.birth.Statement.{statement}
 use Rattle.arena_demo.proofs.birth.Tie as tie
-use Rattle.arena_demo.proofs.birth.Reads as reads
-use Rattle.arena_demo.proofs.birth.Lts as lts
-use Rattle.arena.proofs.check.Reads as check-reads
-use Rattle.arena.proofs.upcoming.Reads as upcoming-reads
-use Rattle.arena_demo.proofs.number.Reads as number-reads
-use Rattle.arena_demo.proofs.say.Reads as say-reads
-use Rattle.arena_demo.proofs.try_birth.Reads as try-birth-reads
 
 -- past the check
 packed : (c : tie.Else1) → Packed (c .before .before .before .before .args .n) (c .before .before .before .before .args .m .now)

@@ -6,13 +6,6 @@ use Rattle.arena.specs.Packed.{Alive}
 use Rattle.table.proofs.Live.{live-stamp}
 use Rattle.arena_demo.proofs.end.Statement.{statement}
 use Rattle.arena_demo.proofs.end.Tie as tie
-use Rattle.arena_demo.proofs.end.Reads as reads
-use Rattle.arena_demo.proofs.end.Lts as lts
-use Rattle.arena.proofs.check.Reads as check-reads
-use Rattle.arena.proofs.end.Reads as end-reads
-use Rattle.arena.proofs.is_live.Reads as is-live-reads
-use Rattle.arena_demo.proofs.number.Reads as number-reads
-use Rattle.arena_demo.proofs.say.Reads as say-reads
 
 -- past the check
 packed : (c : tie.Else1) → Packed (c .before .before .before .before .args .n) (c .before .before .before .before .args .m .now)

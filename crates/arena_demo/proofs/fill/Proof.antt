@@ -7,13 +7,6 @@ use Rattle.table.proofs.Laws.{says-yes}
 use Rattle.arena.specs.Packed.{Packed}
 use Rattle.arena_demo.proofs.fill.Statement.{statement}
 use Rattle.arena_demo.proofs.fill.Tie as tie
-use Rattle.arena_demo.proofs.fill.Reads as reads
-use Rattle.arena_demo.proofs.fill.Lts as lts
-use Rattle.arena.proofs.check.Reads as check-reads
-use Rattle.arena.proofs.taken.Reads as taken-reads
-use Rattle.arena_demo.proofs.number.Reads as number-reads
-use Rattle.arena_demo.proofs.say.Reads as say-reads
-use Rattle.arena_demo.proofs.try_birth.Reads as try-birth-reads
 
 abbrev Inv-loop : tie.InvT-loop
 Inv-loop m₀ n ok i₀ t6 t7 t8 m i = Packed n m × (length m ≡ length m₀)

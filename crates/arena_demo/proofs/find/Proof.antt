@@ -4,12 +4,6 @@ use Rattle.table.proofs.Laws.{says-yes}
 use Rattle.arena.specs.Packed.{Packed}
 use Rattle.arena_demo.proofs.find.Statement.{statement}
 use Rattle.arena_demo.proofs.find.Tie as tie
-use Rattle.arena_demo.proofs.find.Reads as reads
-use Rattle.arena_demo.proofs.find.Lts as lts
-use Rattle.arena.proofs.check.Reads as check-reads
-use Rattle.arena.proofs.find.Reads as find-reads
-use Rattle.arena_demo.proofs.number.Reads as number-reads
-use Rattle.arena_demo.proofs.say.Reads as say-reads
 
 -- past the check
 packed : (c : tie.Else1) → Packed (c .before .before .before .args .n) (c .before .before .before .args .m .now)

@@ -9,14 +9,6 @@ use Rattle.arena.specs.Packed.{Alive}
 use Rattle.table.proofs.Live.{nth-live}
 use Rattle.arena_demo.proofs.list.Statement.{statement}
 use Rattle.arena_demo.proofs.list.Tie as tie
-use Rattle.arena_demo.proofs.list.Reads as reads
-use Rattle.arena_demo.proofs.list.Lts as lts
-use Rattle.arena.proofs.check.Reads as check-reads
-use Rattle.arena.proofs.nth_live.Reads as nth-live-reads
-use Rattle.arena.proofs.number_at.Reads as number-at-reads
-use Rattle.arena.proofs.taken.Reads as taken-reads
-use Rattle.arena_demo.proofs.number.Reads as number-reads
-use Rattle.arena_demo.proofs.say.Reads as say-reads
 
 abbrev Inv-loop : tie.InvT-loop
 Inv-loop m n ok l k₀ t9 t10 t11 k = Unit {0}

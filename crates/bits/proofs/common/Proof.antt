@@ -4,9 +4,6 @@ use Rattle.bits.proofs.Digits.{pass-four}
 use borrow.Author.Needs.{needs}
 use Rattle.bits.proofs.common.Statement.{statement}
 use Rattle.bits.proofs.common.Tie as tie
-use Rattle.bits.proofs.common.Reads as reads
-use Rattle.bits.proofs.common.Lts as lts
-use Rattle.bits.proofs.word.Reads as word-reads
 
 word-requires : tie.Need-word-requires
 word-requires c κs = search needs

@@ -8,9 +8,6 @@ use Rattle.bits.specs.Map.{Skipped}
 use Rattle.bits.proofs.Digits.{pass-eight}
 use Rattle.bits.proofs.skip_full.Statement.{statement}
 use Rattle.bits.proofs.skip_full.Tie as tie
-use Rattle.bits.proofs.skip_full.Reads as reads
-use Rattle.bits.proofs.skip_full.Lts as lts
-use Rattle.bits.proofs.common.Reads as common-reads
 
 abbrev Inv-loop : tie.InvT-loop
 Inv-loop b k₀ k = Skipped b k

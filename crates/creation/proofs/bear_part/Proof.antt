@@ -4,12 +4,6 @@ use Rattle.creation.proofs.Operations.{part-sound, result-can, operand-
 use borrow.Author.Needs.{needs}
 use Rattle.creation.proofs.bear_part.Statement.{statement}
 use Rattle.creation.proofs.bear_part.Tie as tie
-use Rattle.creation.proofs.bear_part.Reads as reads
-use Rattle.creation.proofs.bear_part.Lts as lts
-use Rattle.context.proofs.region.birth_region.Reads as birth-region-reads
-use Rattle.context.proofs.value.birth_value.Reads as birth-value-reads
-use Rattle.creation.proofs.bear_use.Reads as bear-use-reads
-use Rattle.edit.proofs.field.Reads as field-reads
 
 add-field : tie.Need-add-field
 add-field c = search needs

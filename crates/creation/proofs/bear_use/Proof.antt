@@ -1,4 +1,4 @@
-use Prim.Native.Nat.{_+_, _*_, _<_}
+use Prim.Native.Nat.{_+_, _*_}
 use native.Mathlib.Omega.{arith}
 use Rattle.places.specs.Store.{op}
 use Rattle.context.proofs.Places.{place<}
@@ -7,10 +7,6 @@ use Rattle.creation.proofs.Operations.{not-lost, can-use, used, slots-0
 use borrow.Author.Needs.{needs}
 use Rattle.creation.proofs.bear_use.Statement.{statement}
 use Rattle.creation.proofs.bear_use.Tie as tie
-use Rattle.creation.proofs.bear_use.Reads as reads
-use Rattle.creation.proofs.bear_use.Lts as lts
-use Rattle.context.proofs.value.birth_use.Reads as birth-use-reads
-use Rattle.creation.proofs.definition.Reads as definition-reads
 
 definition-requires : tie.Need-definition-requires
 definition-requires c κs = search needs

@@ -3,9 +3,6 @@ use Rattle.creation.proofs.Names.{found-value, found-block}
 use borrow.Author.Needs.{needs}
 use Rattle.creation.proofs.definition.Statement.{statement}
 use Rattle.creation.proofs.definition.Tie as tie
-use Rattle.creation.proofs.definition.Reads as reads
-use Rattle.creation.proofs.definition.Lts as lts
-use Rattle.context.proofs.find.Reads as find-reads
 
 find-requires : tie.Need-find-requires
 find-requires c κs = search needs

@@ -2,8 +2,6 @@ use Rattle.creation.proofs.Names.{missing-block}
 use borrow.Author.Needs.{needs}
 use Rattle.creation.proofs.missing.Statement.{statement}
 use Rattle.creation.proofs.missing.Tie as tie
-use Rattle.creation.proofs.missing.Reads as reads
-use Rattle.creation.proofs.missing.Lts as lts
 
 returns : tie.Need-returns
 returns c = search needs

@@ -9,11 +9,6 @@ use Rattle.creation.specs.Made.{slotBy, Named}
 use Rattle.creation.proofs.Names.{one-lost, one-more, names-done}
 use Rattle.creation.proofs.names_code.Statement.{statement}
 use Rattle.creation.proofs.names_code.Tie as tie
-use Rattle.creation.proofs.names_code.Reads as reads
-use Rattle.creation.proofs.names_code.Lts as lts
-use Rattle.creation.proofs.definition.Reads as definition-reads
-use Rattle.creation.proofs.missing.Reads as missing-reads
-use Rattle.edit.proofs.field.Reads as field-reads
 
 abbrev Inv-loop : tie.InvT-loop
 Inv-loop m l rec sl at n j₀ j = (j ≤ n) × ((i : ℕ) → i < j → Named (stateOf l m) (defKind (slotBy sl)) (getD (fields-of rec) (at + i) 0))

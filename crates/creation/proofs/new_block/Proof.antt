@@ -9,13 +9,6 @@ use Rattle.creation.specs.Made.{BlockPartly}
 use Rattle.creation.proofs.Blocks.{block-refused, block-refusal, block-ready, room-for-block, block-begun, inside, can-argument, block-turn, at-end, block-done}
 use Rattle.creation.proofs.new_block.Statement.{statement}
 use Rattle.creation.proofs.new_block.Tie as tie
-use Rattle.creation.proofs.new_block.Reads as reads
-use Rattle.creation.proofs.new_block.Lts as lts
-use Rattle.context.proofs.basic_block.birth_block.Reads as birth-block-reads
-use Rattle.context.proofs.value.birth_value.Reads as birth-value-reads
-use Rattle.context.proofs.next_number.Reads as next-number-reads
-use Rattle.creation.proofs.room_code.Reads as room-code-reads
-use Rattle.edit.proofs.field.Reads as field-reads
 
 abbrev Inv-loop : tie.InvT-loop
 Inv-loop m₀ l rec n c x b k j₀ m j = (length m ≡ length m₀) × (j ≤ n) × ((e : List ℕ) → BlockPartly l (fields-of rec) b 0 e m₀ → BlockPartly l (fields-of rec) b j e m)

@@ -9,13 +9,6 @@ use Rattle.creation.specs.Made.{OperationPartly}
 use Rattle.creation.proofs.Operations.{operation-refused, room-for-operation, operation-begun, operation-done}
 use Rattle.creation.proofs.new_operation.Statement.{statement}
 use Rattle.creation.proofs.new_operation.Tie as tie
-use Rattle.creation.proofs.new_operation.Reads as reads
-use Rattle.creation.proofs.new_operation.Lts as lts
-use Rattle.context.proofs.operation.birth_op.Reads as birth-op-reads
-use Rattle.context.proofs.next_number.Reads as next-number-reads
-use Rattle.creation.proofs.bear_part.Reads as bear-part-reads
-use Rattle.creation.proofs.operation_code.Reads as operation-code-reads
-use Rattle.edit.proofs.field.Reads as field-reads
 
 abbrev Inv-loop : tie.InvT-loop
 Inv-loop m₀ l rec r a s g c f x o n j₀ m j = (length m ≡ length m₀) × (j ≤ n) × ((e : List ℕ) → OperationPartly l (fields-of rec) r a s g o 0 e m₀ → OperationPartly l (fields-of rec) r a s g o j e m)

@@ -1,13 +1,10 @@
-use Rattle.rules.specs.Refusal.{lacks, numbers, live-counts}
+use Rattle.rules.specs.Refusal.{lacks, numbers}
 use Rattle.context.specs.Performed.{abs}
 use Rattle.creation.specs.Room.{five, left}
 use Rattle.creation.proofs.Rooms.{numbers-whole, yes₁, yes₂, yes₃, yes₄, last₅}
 use borrow.Author.Needs.{needs}
 use Rattle.creation.proofs.numbers_lack.Statement.{statement}
 use Rattle.creation.proofs.numbers_lack.Tie as tie
-use Rattle.creation.proofs.numbers_lack.Reads as reads
-use Rattle.creation.proofs.numbers_lack.Lts as lts
-use Rattle.creation.proofs.lacks_numbers.Reads as lacks-numbers-reads
 
 lacks-numbers-requires : tie.Need-lacks-numbers-requires
 lacks-numbers-requires c κs = search needs

@@ -4,10 +4,6 @@ use Rattle.creation.proofs.Operations.{values-fit, blocks-fit, value-lo
 use borrow.Author.Needs.{needs}
 use Rattle.creation.proofs.operation_code.Statement.{statement}
 use Rattle.creation.proofs.operation_code.Tie as tie
-use Rattle.creation.proofs.operation_code.Reads as reads
-use Rattle.creation.proofs.operation_code.Lts as lts
-use Rattle.creation.proofs.names_code.Reads as names-code-reads
-use Rattle.creation.proofs.room_code.Reads as room-code-reads
 
 add-names-code : tie.Need-add-names-code
 add-names-code c = omega (arith, (values-fit (c .before .before .pre .0) (fields-of (c .before .before .args .rec .now)) (c .before .before .pre .1 .0) (c .before .before .args .r) (c .before .before .args .a) (c .before .before .args .s) (c .before .before .args .g) (c .before .before .pre .1 .1)) .1)

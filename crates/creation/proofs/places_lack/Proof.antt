@@ -1,13 +1,10 @@
-use Rattle.rules.specs.Refusal.{lacks, numbers, live-counts}
+use Rattle.rules.specs.Refusal.{lacks, live-counts}
 use Rattle.context.specs.Performed.{abs}
 use Rattle.creation.specs.Room.{five, spare}
 use Rattle.creation.proofs.Rooms.{places-whole, yes₁, yes₂, yes₃, yes₄, last₅}
 use borrow.Author.Needs.{needs}
 use Rattle.creation.proofs.places_lack.Statement.{statement}
 use Rattle.creation.proofs.places_lack.Tie as tie
-use Rattle.creation.proofs.places_lack.Reads as reads
-use Rattle.creation.proofs.places_lack.Lts as lts
-use Rattle.creation.proofs.lacks_places.Reads as lacks-places-reads
 
 lacks-places-requires : tie.Need-lacks-places-requires
 lacks-places-requires c κs = search needs

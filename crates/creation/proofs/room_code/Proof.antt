@@ -3,10 +3,6 @@ use Rattle.creation.proofs.Rooms.{is-20, is-21, is-0}
 use borrow.Author.Needs.{needs}
 use Rattle.creation.proofs.room_code.Statement.{statement}
 use Rattle.creation.proofs.room_code.Tie as tie
-use Rattle.creation.proofs.room_code.Reads as reads
-use Rattle.creation.proofs.room_code.Lts as lts
-use Rattle.creation.proofs.numbers_lack.Reads as numbers-lack-reads
-use Rattle.creation.proofs.places_lack.Reads as places-lack-reads
 
 places-lack-requires : tie.Need-places-lack-requires
 places-lack-requires c κs = search needs

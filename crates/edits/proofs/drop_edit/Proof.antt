@@ -1,8 +1,7 @@
 use native.Mathlib.Omega.{arith}
-use Prim.Native.Nat.{_+_}
 use Rattle.edit.specs.Taken.{fields-of}
 use Rattle.edit.proofs.ByKind.{kinds}
-use Rattle.edits.proofs.ByKind.{by-one, by-two, by-three, by-kind}
+use Rattle.edits.proofs.ByKind.{by-one}
 use Rattle.edit.specs.Record.{the-operation, the-block, the-region, drop-uses}
 use borrow.Author.Needs.{needs}
 use Rattle.edits.proofs.drop_edit.Statement.{statement}

@@ -1,8 +1,7 @@
 use native.Mathlib.Omega.{arith}
-use Prim.Native.Nat.{_+_}
 use Rattle.edit.specs.Taken.{fields-of}
 use Rattle.edit.proofs.ByKind.{kinds}
-use Rattle.edits.proofs.ByKind.{by-one, by-two, by-three, by-kind}
+use Rattle.edits.proofs.ByKind.{by-one, by-two}
 use Rattle.edit.specs.Record.{erase-operation, erase-block, erase-region}
 use Rattle.edits.proofs.Zeros.{to-walk, same-zeros}
 use borrow.Author.Needs.{needs}

@@ -2,7 +2,7 @@ use native.Mathlib.Omega.{arith}
 use Prim.Native.Nat.{_+_}
 use Rattle.edit.specs.Taken.{fields-of}
 use Rattle.edit.proofs.ByKind.{kinds}
-use Rattle.edits.proofs.ByKind.{by-one, by-two, by-three, by-kind}
+use Rattle.edits.proofs.ByKind.{by-one, by-two}
 use Rattle.edit.specs.Record.{link-after, link-before, link-front, link-back, unlink}
 use Rattle.edit.specs.ByKind.{link-kinds}
 use Rattle.links.specs.Tests.{memberOf}

@@ -2,7 +2,7 @@ use native.Mathlib.Omega.{arith}
 use Prim.Native.Nat.{_+_}
 use Rattle.edit.specs.Taken.{fields-of}
 use Rattle.edit.proofs.ByKind.{kinds}
-use Rattle.edits.proofs.ByKind.{by-one, by-two, by-three, by-kind}
+use Rattle.edits.proofs.ByKind.{by-one, by-two, by-three}
 use Rattle.edit.specs.Record.{push-use, insert-use, replace-use, remove-use, pop-use}
 use Rattle.edit.specs.ByKind.{use-kinds}
 use Rattle.uses.specs.Look.{slotBy}

@@ -2,7 +2,7 @@ use native.Mathlib.Omega.{arith}
 use Prim.Native.Nat.{_+_}
 use Rattle.edit.specs.Taken.{fields-of}
 use Rattle.edit.proofs.ByKind.{kinds}
-use Rattle.edits.proofs.ByKind.{by-one, by-two, by-three, by-kind}
+use Rattle.edits.proofs.ByKind.{by-one, by-two, by-three}
 use Rattle.edit.specs.Record.{push-value, insert-value, remove-value, pop-value}
 use Rattle.edit.specs.ByKind.{value-kinds}
 use Rattle.values.specs.Look.{memberBy}

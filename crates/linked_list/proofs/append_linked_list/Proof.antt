@@ -2,7 +2,7 @@ use borrow.Author.Needs.{needs}
 use native.Mathlib.Omega.{arith}
 use mathlib.Core.Path.{_≡_, refl, sym, _∙_}
 use mathlib.Core.List.{[]}
-use Prim.Native.Nat.{zero, suc, _-_, _≤_, _<_, zero-le}
+use Prim.Native.Nat.{zero, suc, _-_, _≤_, zero-le}
 use lib.ListN.{getD, length}
 use Rattle.linked_list.specs.Links.{lists}
 use mathlib.Core.Logic.{inl}
@@ -10,11 +10,6 @@ use Rattle.linked_list.proofs.Getters.{code≤}
 use Rattle.linked_list.proofs.Moves.{Moved, mover, moved-more, moved-all}
 use Rattle.linked_list.proofs.append_linked_list.Statement.{statement}
 use Rattle.linked_list.proofs.append_linked_list.Tie as tie
-use Rattle.linked_list.proofs.append_linked_list.Reads as reads
-use Rattle.linked_list.proofs.append_linked_list.Lts as lts
-use Rattle.linked_list.proofs.insert_at_back.Reads as insert-at-back-reads
-use Rattle.linked_list.proofs.unlink.Reads as unlink-reads
-use Rattle.linked_list.proofs.wide.Reads as wide-reads
 
 abbrev Inv-loop : tie.InvT-loop
 Inv-loop s₀ nc nn donee donor k₀ s k = (k ≤ nn) × Moved nc nn s₀ s donee donor k

@@ -11,8 +11,6 @@ use Rattle.linked_list.specs.Check.{frees}
 use Rattle.linked_list.proofs.Checks.{frees-more, frees-skip, frees-none, frees-fail, frees-found}
 use Rattle.linked_list.proofs.check_frees.Statement.{statement}
 use Rattle.linked_list.proofs.check_frees.Tie as tie
-use Rattle.linked_list.proofs.check_frees.Reads as reads
-use Rattle.linked_list.proofs.check_frees.Lts as lts
 
 abbrev Inv-loop : tie.InvT-loop
 Inv-loop s nc nn f₀ n₀ f n = (n ≤ nn) × (f ≤ n) × ((m : ℕ) → m < n → getD s (home nc nn m) 0 ≡ 0 → Free nc nn s m) × (length (frees nc nn s n) ≡ f)

@@ -3,10 +3,6 @@ use Rattle.linked_list.proofs.Checks.{links-no, links-says}
 use borrow.Author.Needs.{needs}
 use Rattle.linked_list.proofs.check_links.Statement.{statement}
 use Rattle.linked_list.proofs.check_links.Tie as tie
-use Rattle.linked_list.proofs.check_links.Reads as reads
-use Rattle.linked_list.proofs.check_links.Lts as lts
-use Rattle.linked_list.proofs.check_frees.Reads as check-frees-reads
-use Rattle.linked_list.proofs.check_rows.Reads as check-rows-reads
 
 check-rows-requires : tie.Need-check-rows-requires
 check-rows-requires c κs = search needs

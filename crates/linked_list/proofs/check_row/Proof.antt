@@ -2,13 +2,10 @@ use borrow.Author.Needs.{needs}
 use native.Mathlib.Omega.{arith}
 use native.Mathlib.Numerals.{add-one}
 use mathlib.Core.Path.{_≡_, sym, _∙_}
-use Prim.Native.Nat.{suc, _-_, _≤_, _<_, zero-le}
+use Prim.Native.Nat.{suc, _-_, _≤_, zero-le}
 use Rattle.linked_list.proofs.Checks.{Part, Along, part-none, part-more, along-none, along-more, at-node, row-fails, row-found, along-tail}
 use Rattle.linked_list.proofs.check_row.Statement.{statement}
 use Rattle.linked_list.proofs.check_row.Tie as tie
-use Rattle.linked_list.proofs.check_row.Reads as reads
-use Rattle.linked_list.proofs.check_row.Lts as lts
-use Rattle.linked_list.proofs.wide.Reads as wide-reads
 
 abbrev Inv-loop : tie.InvT-loop
 Inv-loop s nc nn c b z p₀ q₀ j₀ p q j = (j ≤ b) × Part nc nn s c p q j × Along nc nn s c p q j

@@ -9,9 +9,6 @@ use Rattle.linked_list.specs.Check.{rowAt, tot}
 use Rattle.linked_list.proofs.Checks.{tot-more, tot-none, rows-fail, rows-found}
 use Rattle.linked_list.proofs.check_rows.Statement.{statement}
 use Rattle.linked_list.proofs.check_rows.Tie as tie
-use Rattle.linked_list.proofs.check_rows.Reads as reads
-use Rattle.linked_list.proofs.check_rows.Lts as lts
-use Rattle.linked_list.proofs.check_row.Reads as check-row-reads
 
 abbrev Inv-loop : tie.InvT-loop
 Inv-loop s nc nn t₀ c₀ t c = (c ≤ nc) × (t ≤ nn) × ((d : ℕ) → d < c → Row nc nn s d (rowAt nc nn s d)) × (t ≡ tot nc nn s c)

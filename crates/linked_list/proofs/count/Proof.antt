@@ -2,16 +2,13 @@ use borrow.Author.Needs.{needs}
 use native.Mathlib.Omega.{arith}
 use mathlib.Core.Path.{_≡_}
 use mathlib.Core.List.{[]}
-use Prim.Native.Nat.{zero, _-_, _≤_, _<_, _+_, zero-le}
+use Prim.Native.Nat.{zero, _-_, _≤_, _+_, zero-le}
 use lib.ListN.{getD, length}
 use Rattle.linked_list.specs.Links.{lists, at}
 use Rattle.linked_list.proofs.Getters.{walk-step, at-ne, at-nil, code≤}
 use Rattle.linked_list.proofs.View.{row-short}
 use Rattle.linked_list.proofs.count.Statement.{statement}
 use Rattle.linked_list.proofs.count.Tie as tie
-use Rattle.linked_list.proofs.count.Reads as reads
-use Rattle.linked_list.proofs.count.Lts as lts
-use Rattle.linked_list.proofs.wide.Reads as wide-reads
 
 abbrev Inv-loop : tie.InvT-loop
 Inv-loop s nc nn c k₀ j₀ k j = (j ≤ length (getD (lists nc nn s) c [])) × (k ≡ at (getD (lists nc nn s) c []) j) × (k ≤ nn)

@@ -2,8 +2,6 @@ use Prim.Native.Nat.{zero, zero-le}
 use borrow.Author.Needs.{needs}
 use Rattle.linked_list.proofs.get_head.Statement.{statement}
 use Rattle.linked_list.proofs.get_head.Tie as tie
-use Rattle.linked_list.proofs.get_head.Reads as reads
-use Rattle.linked_list.proofs.get_head.Lts as lts
 
 mul-result : tie.Need-mul-result
 mul-result c = search needs

@@ -2,8 +2,6 @@ use Rattle.linked_list.proofs.Getters.{cells}
 use borrow.Author.Needs.{needs}
 use Rattle.linked_list.proofs.get_prev.Statement.{statement}
 use Rattle.linked_list.proofs.get_prev.Tie as tie
-use Rattle.linked_list.proofs.get_prev.Reads as reads
-use Rattle.linked_list.proofs.get_prev.Lts as lts
 
 mul-result : tie.Need-mul-result
 mul-result c = search needs

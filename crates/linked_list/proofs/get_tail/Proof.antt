@@ -2,8 +2,6 @@ use Rattle.linked_list.proofs.Getters.{tail-is}
 use borrow.Author.Needs.{needs}
 use Rattle.linked_list.proofs.get_tail.Statement.{statement}
 use Rattle.linked_list.proofs.get_tail.Tie as tie
-use Rattle.linked_list.proofs.get_tail.Reads as reads
-use Rattle.linked_list.proofs.get_tail.Lts as lts
 
 add-result : tie.Need-add-result
 add-result c = search needs

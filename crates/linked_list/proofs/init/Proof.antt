@@ -7,8 +7,6 @@ use lib.ListN.{getD, length, length-set}
 use Rattle.linked_list.proofs.Moves.{emptied, zero-more}
 use Rattle.linked_list.proofs.init.Statement.{statement}
 use Rattle.linked_list.proofs.init.Tie as tie
-use Rattle.linked_list.proofs.init.Reads as reads
-use Rattle.linked_list.proofs.init.Lts as lts
 
 abbrev Inv-loop : tie.InvT-loop
 Inv-loop s₀ nc nn i₀ s i = (length s ≡ length s₀) × (i ≤ length s) × ((j : ℕ) → j < i → getD s j 0 ≡ 0)

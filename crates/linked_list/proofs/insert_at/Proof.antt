@@ -3,12 +3,6 @@ use native.Mathlib.Omega.{arith}
 use borrow.Author.Needs.{needs}
 use Rattle.linked_list.proofs.insert_at.Statement.{statement}
 use Rattle.linked_list.proofs.insert_at.Tie as tie
-use Rattle.linked_list.proofs.insert_at.Reads as reads
-use Rattle.linked_list.proofs.insert_at.Lts as lts
-use Rattle.linked_list.proofs.count.Reads as count-reads
-use Rattle.linked_list.proofs.insert_at_back.Reads as insert-at-back-reads
-use Rattle.linked_list.proofs.insert_before.Reads as insert-before-reads
-use Rattle.linked_list.proofs.nth.Reads as nth-reads
 
 count-requires : tie.Need-count-requires
 count-requires c κs = search needs

@@ -1,12 +1,9 @@
 use borrow.Author.Needs.{needs}
 use native.Mathlib.Numerals.{add-one}
-use Prim.Native.Nat.{_-_, _≤_, zero-le}
+use Prim.Native.Nat.{zero-le}
 use Rattle.linked_list.proofs.View.{ends, inserts-back}
 use Rattle.linked_list.proofs.insert_at_back.Statement.{statement}
 use Rattle.linked_list.proofs.insert_at_back.Tie as tie
-use Rattle.linked_list.proofs.insert_at_back.Reads as reads
-use Rattle.linked_list.proofs.insert_at_back.Lts as lts
-use Rattle.linked_list.proofs.store.Reads as store-reads
 
 add-p : tie.Need-add-p
 add-p c = search needs

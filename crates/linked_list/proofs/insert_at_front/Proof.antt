@@ -1,12 +1,9 @@
 use borrow.Author.Needs.{needs}
 use native.Mathlib.Numerals.{add-one}
-use Prim.Native.Nat.{_-_, _≤_, zero-le}
+use Prim.Native.Nat.{zero-le}
 use Rattle.linked_list.proofs.View.{ends, inserts-front}
 use Rattle.linked_list.proofs.insert_at_front.Statement.{statement}
 use Rattle.linked_list.proofs.insert_at_front.Tie as tie
-use Rattle.linked_list.proofs.insert_at_front.Reads as reads
-use Rattle.linked_list.proofs.insert_at_front.Lts as lts
-use Rattle.linked_list.proofs.store.Reads as store-reads
 
 mul-q : tie.Need-mul-q
 mul-q c = search needs

@@ -5,8 +5,6 @@ use Rattle.linked_list.proofs.Getters.{cells}
 use borrow.Author.Needs.{needs}
 use Rattle.linked_list.proofs.is_linked.Statement.{statement}
 use Rattle.linked_list.proofs.is_linked.Tie as tie
-use Rattle.linked_list.proofs.is_linked.Reads as reads
-use Rattle.linked_list.proofs.is_linked.Lts as lts
 
 mul-result : tie.Need-mul-result
 mul-result c = search needs

@@ -8,9 +8,6 @@ use Rattle.linked_list.specs.Links.{lists, at}
 use Rattle.linked_list.proofs.Getters.{walk-step, on-node, at-getD}
 use Rattle.linked_list.proofs.nth.Statement.{statement}
 use Rattle.linked_list.proofs.nth.Tie as tie
-use Rattle.linked_list.proofs.nth.Reads as reads
-use Rattle.linked_list.proofs.nth.Lts as lts
-use Rattle.linked_list.proofs.wide.Reads as wide-reads
 
 abbrev Inv-loop : tie.InvT-loop
 Inv-loop s nc nn c i k₀ j₀ k j = (j ≤ i) × (k ≡ at (getD (lists nc nn s) c []) j) × (0 < k) × (k ≤ nn)

@@ -3,9 +3,6 @@ use native.Mathlib.Omega.{arith}
 use Rattle.linked_list.proofs.Laws.{after-of}
 use Rattle.linked_list.proofs.slot_after.Statement.{statement}
 use Rattle.linked_list.proofs.slot_after.Tie as tie
-use Rattle.linked_list.proofs.slot_after.Reads as reads
-use Rattle.linked_list.proofs.slot_after.Lts as lts
-use Rattle.linked_list.proofs.wide.Reads as wide-reads
 
 mul-result : tie.Need-mul-result
 mul-result c = search needs

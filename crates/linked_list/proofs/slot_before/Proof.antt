@@ -3,9 +3,6 @@ use native.Mathlib.Omega.{arith}
 use Rattle.linked_list.proofs.Laws.{before-of, before-end}
 use Rattle.linked_list.proofs.slot_before.Statement.{statement}
 use Rattle.linked_list.proofs.slot_before.Tie as tie
-use Rattle.linked_list.proofs.slot_before.Reads as reads
-use Rattle.linked_list.proofs.slot_before.Lts as lts
-use Rattle.linked_list.proofs.wide.Reads as wide-reads
 
 add-result : tie.Need-add-result
 add-result c = search needs

@@ -4,10 +4,6 @@ use lib.ListN.{length-set}
 use Rattle.linked_list.specs.Links.{splice}
 use Rattle.linked_list.proofs.store.Statement.{statement}
 use Rattle.linked_list.proofs.store.Tie as tie
-use Rattle.linked_list.proofs.store.Reads as reads
-use Rattle.linked_list.proofs.store.Lts as lts
-use Rattle.linked_list.proofs.slot_after.Reads as slot-after-reads
-use Rattle.linked_list.proofs.slot_before.Reads as slot-before-reads
 
 slot-after-requires : tie.Need-slot-after-requires
 slot-after-requires c κs = search needs

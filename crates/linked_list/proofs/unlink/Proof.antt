@@ -3,10 +3,6 @@ use native.Mathlib.Omega.{arith}
 use Rattle.linked_list.proofs.View.{ranges, unlinks}
 use Rattle.linked_list.proofs.unlink.Statement.{statement}
 use Rattle.linked_list.proofs.unlink.Tie as tie
-use Rattle.linked_list.proofs.unlink.Reads as reads
-use Rattle.linked_list.proofs.unlink.Lts as lts
-use Rattle.linked_list.proofs.store.Reads as store-reads
-use Rattle.linked_list.proofs.wide.Reads as wide-reads
 
 mul-wide : tie.Need-mul-wide
 mul-wide c = search needs

@@ -3,12 +3,6 @@ use Rattle.linked_list.specs.Links.{Linked}
 use borrow.Author.Needs.{needs}
 use Rattle.linked_list_demo.proofs.act.Statement.{statement}
 use Rattle.linked_list_demo.proofs.act.Tie as tie
-use Rattle.linked_list_demo.proofs.act.Reads as reads
-use Rattle.linked_list_demo.proofs.act.Lts as lts
-use Rattle.linked_list.proofs.check_links.Reads as check-links-reads
-use Rattle.linked_list_demo.proofs.change.Reads as change-reads
-use Rattle.linked_list_demo.proofs.digit.Reads as digit-reads
-use Rattle.linked_list_demo.proofs.tear.Reads as tear-reads
 
 digit-requires : tie.Need-digit-requires
 digit-requires c κs = search needs

@@ -2,12 +2,6 @@ use native.Mathlib.Omega.{arith}
 use borrow.Author.Needs.{needs}
 use Rattle.linked_list_demo.proofs.insert.Statement.{statement}
 use Rattle.linked_list_demo.proofs.insert.Tie as tie
-use Rattle.linked_list_demo.proofs.insert.Reads as reads
-use Rattle.linked_list_demo.proofs.insert.Lts as lts
-use Rattle.linked_list.proofs.get_home.Reads as get-home-reads
-use Rattle.linked_list.proofs.insert_at.Reads as insert-at-reads
-use Rattle.linked_list.proofs.insert_at_back.Reads as insert-at-back-reads
-use Rattle.linked_list.proofs.insert_at_front.Reads as insert-at-front-reads
 
 returns : tie.Need-returns
 returns c = search needs

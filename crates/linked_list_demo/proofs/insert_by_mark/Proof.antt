@@ -2,11 +2,6 @@ use native.Mathlib.Omega.{arith}
 use borrow.Author.Needs.{needs}
 use Rattle.linked_list_demo.proofs.insert_by_mark.Statement.{statement}
 use Rattle.linked_list_demo.proofs.insert_by_mark.Tie as tie
-use Rattle.linked_list_demo.proofs.insert_by_mark.Reads as reads
-use Rattle.linked_list_demo.proofs.insert_by_mark.Lts as lts
-use Rattle.linked_list.proofs.get_home.Reads as get-home-reads
-use Rattle.linked_list.proofs.insert_after.Reads as insert-after-reads
-use Rattle.linked_list.proofs.insert_before.Reads as insert-before-reads
 
 returns : tie.Need-returns
 returns c = search needs

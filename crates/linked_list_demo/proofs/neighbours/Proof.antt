@@ -2,9 +2,6 @@ use borrow.Author.Needs.{needs}
 use Prim.Native.Nat.{_≤_, _-_}
 use Rattle.linked_list_demo.proofs.neighbours.Statement.{statement}
 use Rattle.linked_list_demo.proofs.neighbours.Tie as tie
-use Rattle.linked_list_demo.proofs.neighbours.Reads as reads
-use Rattle.linked_list_demo.proofs.neighbours.Lts as lts
-use Rattle.linked_list_demo.proofs.neighbours_of.Reads as neighbours-of-reads
 
 abbrev Inv-loop : tie.InvT-loop
 Inv-loop s nc nn n₀ n = n ≤ nn

@@ -4,12 +4,6 @@ use mathlib.Core.Path.{_≡_}
 use lib.ListN.{length}
 use Rattle.linked_list_demo.proofs.play.Statement.{statement}
 use Rattle.linked_list_demo.proofs.play.Tie as tie
-use Rattle.linked_list_demo.proofs.play.Reads as reads
-use Rattle.linked_list_demo.proofs.play.Lts as lts
-use Rattle.io.proofs.write_all.Reads as write-all-reads
-use Rattle.linked_list.proofs.init.Reads as init-reads
-use Rattle.linked_list_demo.proofs.show.Reads as show-reads
-use Rattle.linked_list_demo.proofs.step.Reads as step-reads
 
 abbrev Inv-loop : tie.InvT-loop
 Inv-loop s₀ nc nn steps j₀ s j = (length s ≡ length s₀) × (j ≤ length steps)

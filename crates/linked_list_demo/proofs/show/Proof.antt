@@ -3,11 +3,6 @@ use Rattle.linked_list.specs.Links.{Linked}
 use borrow.Author.Needs.{needs}
 use Rattle.linked_list_demo.proofs.show.Statement.{statement}
 use Rattle.linked_list_demo.proofs.show.Tie as tie
-use Rattle.linked_list_demo.proofs.show.Reads as reads
-use Rattle.linked_list_demo.proofs.show.Lts as lts
-use Rattle.io.proofs.write_all.Reads as write-all-reads
-use Rattle.linked_list.proofs.check_links.Reads as check-links-reads
-use Rattle.linked_list_demo.proofs.show_rows.Reads as show-rows-reads
 
 check-links-requires : tie.Need-check-links-requires
 check-links-requires c κs = search needs

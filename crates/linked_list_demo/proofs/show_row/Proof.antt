@@ -3,15 +3,6 @@ use borrow.Author.Needs.{needs}
 use Prim.Native.Nat.{_≤_, _-_}
 use Rattle.linked_list_demo.proofs.show_row.Statement.{statement}
 use Rattle.linked_list_demo.proofs.show_row.Tie as tie
-use Rattle.linked_list_demo.proofs.show_row.Reads as reads
-use Rattle.linked_list_demo.proofs.show_row.Lts as lts
-use Rattle.io.proofs.write_all.Reads as write-all-reads
-use Rattle.linked_list.proofs.count.Reads as count-reads
-use Rattle.linked_list.proofs.get_head.Reads as get-head-reads
-use Rattle.linked_list.proofs.get_tail.Reads as get-tail-reads
-use Rattle.linked_list.proofs.nth.Reads as nth-reads
-use Rattle.linked_list_demo.proofs.print.Reads as print-reads
-use Rattle.linked_list_demo.proofs.wide.Reads as wide-reads
 
 abbrev Inv-loop : tie.InvT-loop
 Inv-loop s nc nn c k i₀ t9 t10 i = i ≤ k

@@ -2,9 +2,6 @@ use Prim.Native.Nat.{_≤_, _-_}
 use borrow.Author.Needs.{needs}
 use Rattle.linked_list_demo.proofs.show_rows.Statement.{statement}
 use Rattle.linked_list_demo.proofs.show_rows.Tie as tie
-use Rattle.linked_list_demo.proofs.show_rows.Reads as reads
-use Rattle.linked_list_demo.proofs.show_rows.Lts as lts
-use Rattle.linked_list_demo.proofs.show_row.Reads as show-row-reads
 
 abbrev Inv-loop : tie.InvT-loop
 Inv-loop s nc nn c₀ c = c ≤ nc

@@ -2,10 +2,6 @@ use native.Mathlib.Omega.{arith}
 use borrow.Author.Needs.{needs}
 use Rattle.linked_list_demo.proofs.unlink.Statement.{statement}
 use Rattle.linked_list_demo.proofs.unlink.Tie as tie
-use Rattle.linked_list_demo.proofs.unlink.Reads as reads
-use Rattle.linked_list_demo.proofs.unlink.Lts as lts
-use Rattle.linked_list.proofs.get_home.Reads as get-home-reads
-use Rattle.linked_list.proofs.unlink.Reads as unlink-reads
 
 returns : tie.Need-returns
 returns c = search needs

@@ -2,8 +2,7 @@ use lib.Dec.{eqb}
 use Rattle.links.proofs.Stepping.{operation-end, operation-on, block-live}
 use Rattle.links.proofs.Climb.{said, denied, none-left, operation-met, step-ends, step-on, step-live}
 use Rattle.context.proofs.Places.{place<}
-use Rattle.places.specs.Store.{op, blk, reg, Thing}
-use mathlib.Core.Path.{_≡_, refl}
+use Rattle.places.specs.Store.{op, blk}
 use native.Mathlib.Omega.{arith}
 use borrow.Author.Needs.{needs}
 use Prim.Native.Nat.{suc, _-_}

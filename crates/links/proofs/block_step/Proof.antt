@@ -1,17 +1,10 @@
 use Rattle.links.proofs.Stepping.{block-end, block-on, region-live}
 use Rattle.links.proofs.Climb.{said, denied, block-met}
 use Rattle.context.proofs.Places.{place<}
-use Rattle.places.specs.Store.{op, blk, reg, Thing}
-use mathlib.Core.Path.{_≡_, refl}
-use native.Mathlib.Omega.{arith}
+use Rattle.places.specs.Store.{blk}
 use borrow.Author.Needs.{needs}
 use Rattle.links.proofs.block_step.Statement.{statement}
 use Rattle.links.proofs.block_step.Tie as tie
-use Rattle.links.proofs.block_step.Reads as reads
-use Rattle.links.proofs.block_step.Lts as lts
-use Rattle.context.proofs.home_of.Reads as home-of-reads
-use Rattle.links.proofs.is_it.Reads as is-it-reads
-use Rattle.links.proofs.region_step.Reads as region-step-reads
 
 is-it-requires : tie.Need-is-it-requires
 is-it-requires c κs = search needs

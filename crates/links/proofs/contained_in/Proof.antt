@@ -4,12 +4,6 @@ use Rattle.context.specs.Memory.{stateOf}
 use borrow.Author.Needs.{needs}
 use Rattle.links.proofs.contained_in.Statement.{statement}
 use Rattle.links.proofs.contained_in.Tie as tie
-use Rattle.links.proofs.contained_in.Reads as reads
-use Rattle.links.proofs.contained_in.Lts as lts
-use Rattle.context.proofs.first_of.Reads as first-of-reads
-use Rattle.context.proofs.live_count.Reads as live-count-reads
-use Rattle.links.proofs.block_in.Reads as block-in-reads
-use Rattle.links.proofs.region_in.Reads as region-in-reads
 
 add-first-of : tie.Need-add-first-of
 add-first-of c = search needs

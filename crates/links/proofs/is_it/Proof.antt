@@ -2,8 +2,6 @@ use Rattle.links.proofs.Stepping.{same-says}
 use borrow.Author.Needs.{needs}
 use Rattle.links.proofs.is_it.Statement.{statement}
 use Rattle.links.proofs.is_it.Tie as tie
-use Rattle.links.proofs.is_it.Reads as reads
-use Rattle.links.proofs.is_it.Lts as lts
 
 returns : tie.Need-returns
 returns c = search needs

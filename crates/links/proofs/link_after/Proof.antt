@@ -2,10 +2,6 @@ use Rattle.links.proofs.Performing.{after-done, beside-refused, beside-
 use borrow.Author.Needs.{needs}
 use Rattle.links.proofs.link_after.Statement.{statement}
 use Rattle.links.proofs.link_after.Tie as tie
-use Rattle.links.proofs.link_after.Reads as reads
-use Rattle.links.proofs.link_after.Lts as lts
-use Rattle.context.proofs.lists.link_after.Reads as link-after-reads
-use Rattle.links.proofs.test_beside.Reads as test-beside-reads
 
 test-beside-requires : tie.Need-test-beside-requires
 test-beside-requires c κs = search needs

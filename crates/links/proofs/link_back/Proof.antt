@@ -2,10 +2,6 @@ use Rattle.links.proofs.Performing.{back-done, enter-refused, enter-ask
 use borrow.Author.Needs.{needs}
 use Rattle.links.proofs.link_back.Statement.{statement}
 use Rattle.links.proofs.link_back.Tie as tie
-use Rattle.links.proofs.link_back.Reads as reads
-use Rattle.links.proofs.link_back.Lts as lts
-use Rattle.context.proofs.lists.link_back.Reads as link-back-reads
-use Rattle.links.proofs.test_enter.Reads as test-enter-reads
 
 test-enter-requires : tie.Need-test-enter-requires
 test-enter-requires c κs = search needs

@@ -2,10 +2,6 @@ use Rattle.links.proofs.Performing.{before-done, beside-refused, beside
 use borrow.Author.Needs.{needs}
 use Rattle.links.proofs.link_before.Statement.{statement}
 use Rattle.links.proofs.link_before.Tie as tie
-use Rattle.links.proofs.link_before.Reads as reads
-use Rattle.links.proofs.link_before.Lts as lts
-use Rattle.context.proofs.lists.link_before.Reads as link-before-reads
-use Rattle.links.proofs.test_beside.Reads as test-beside-reads
 
 test-beside-requires : tie.Need-test-beside-requires
 test-beside-requires c κs = search needs

@@ -2,10 +2,6 @@ use Rattle.links.proofs.Performing.{front-done, enter-refused, enter-as
 use borrow.Author.Needs.{needs}
 use Rattle.links.proofs.link_front.Statement.{statement}
 use Rattle.links.proofs.link_front.Tie as tie
-use Rattle.links.proofs.link_front.Reads as reads
-use Rattle.links.proofs.link_front.Lts as lts
-use Rattle.context.proofs.lists.link_front.Reads as link-front-reads
-use Rattle.links.proofs.test_enter.Reads as test-enter-reads
 
 test-enter-requires : tie.Need-test-enter-requires
 test-enter-requires c κs = search needs

@@ -7,12 +7,6 @@ use Rattle.places.specs.Store.{op, reg}
 use borrow.Author.Needs.{needs}
 use Rattle.links.proofs.may_move.Statement.{statement}
 use Rattle.links.proofs.may_move.Tie as tie
-use Rattle.links.proofs.may_move.Reads as reads
-use Rattle.links.proofs.may_move.Lts as lts
-use Rattle.context.proofs.home_of.Reads as home-of-reads
-use Rattle.context.proofs.live_count.Reads as live-count-reads
-use Rattle.context.proofs.row_length.Reads as row-length-reads
-use Rattle.links.proofs.operation_in.Reads as operation-in-reads
 
 home-of-requires : tie.Need-home-of-requires
 home-of-requires c κs = let s = c .before in (s .pre .0 .well, place< (s .pre .0) (reg, s .args .n) (s .pre .1 .0))

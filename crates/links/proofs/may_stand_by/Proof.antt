@@ -2,17 +2,13 @@ use Rattle.links.proofs.Testing.{linked-15, linked-none, mark-16, mark-
 use Rattle.links.proofs.Sorts.{member<}
 use Rattle.links.proofs.Climb.{said, denied}
 use Rattle.context.specs.Memory.{stateOf}
-use Rattle.links.specs.Tests.{memberOf, missingCode}
-use Rattle.places.specs.Members.{insideCode, markCode, homeOf, enterCode, besideCode}
+use Rattle.links.specs.Tests.{memberOf}
+use Rattle.places.specs.Members.{markCode, homeOf}
 use mathlib.Core.Path.{sym, _∙_}
 use Prim.Native.Nat.{_-_}
 use borrow.Author.Needs.{needs}
 use Rattle.links.proofs.may_stand_by.Statement.{statement}
 use Rattle.links.proofs.may_stand_by.Tie as tie
-use Rattle.links.proofs.may_stand_by.Reads as reads
-use Rattle.links.proofs.may_stand_by.Lts as lts
-use Rattle.context.proofs.home_of.Reads as home-of-reads
-use Rattle.links.proofs.contained_in.Reads as contained-in-reads
 
 add-home-of : tie.Need-add-home-of
 add-home-of c = search needs

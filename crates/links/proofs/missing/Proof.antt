@@ -2,8 +2,6 @@ use Rattle.links.proofs.Testing.{missing-9}
 use borrow.Author.Needs.{needs}
 use Rattle.links.proofs.missing.Statement.{statement}
 use Rattle.links.proofs.missing.Tie as tie
-use Rattle.links.proofs.missing.Reads as reads
-use Rattle.links.proofs.missing.Lts as lts
 
 returns : tie.Need-returns
 returns c = search needs

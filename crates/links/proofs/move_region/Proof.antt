@@ -5,11 +5,6 @@ use native.Mathlib.Omega.{arith}
 use borrow.Author.Needs.{needs}
 use Rattle.links.proofs.move_region.Statement.{statement}
 use Rattle.links.proofs.move_region.Tie as tie
-use Rattle.links.proofs.move_region.Reads as reads
-use Rattle.links.proofs.move_region.Lts as lts
-use Rattle.context.proofs.home_of.Reads as home-of-reads
-use Rattle.context.proofs.region.move_region.Reads as move-region-reads
-use Rattle.links.proofs.test_move.Reads as test-move-reads
 
 test-move-requires : tie.Need-test-move-requires
 test-move-requires c κs = search needs

@@ -1,15 +1,11 @@
 use Rattle.links.proofs.Climb.{step-ends, step-on, step-live}
 use native.Mathlib.Omega.{arith}
 use Prim.Native.Nat.{suc}
-use Rattle.places.specs.Store.{blk, reg}
+use Rattle.places.specs.Store.{reg}
 use Rattle.links.specs.Climbing.{thrice}
 use borrow.Author.Needs.{needs}
 use Rattle.links.proofs.region_in.Statement.{statement}
 use Rattle.links.proofs.region_in.Tie as tie
-use Rattle.links.proofs.region_in.Reads as reads
-use Rattle.links.proofs.region_in.Lts as lts
-use Rattle.links.proofs.operation_in.Reads as operation-in-reads
-use Rattle.links.proofs.region_step.Reads as region-step-reads
 
 region-step-requires : tie.Need-region-step-requires
 region-step-requires c κs = search needs

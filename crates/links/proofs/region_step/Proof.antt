@@ -1,16 +1,11 @@
 use Rattle.links.proofs.Stepping.{region-end, region-on, parent-small}
 use Rattle.links.proofs.Climb.{said, denied, region-met}
 use Rattle.context.proofs.Places.{place<}
-use Rattle.places.specs.Store.{op, blk, reg, Thing}
-use mathlib.Core.Path.{_≡_, refl}
+use Rattle.places.specs.Store.{reg}
 use native.Mathlib.Omega.{arith}
 use borrow.Author.Needs.{needs}
 use Rattle.links.proofs.region_step.Statement.{statement}
 use Rattle.links.proofs.region_step.Tie as tie
-use Rattle.links.proofs.region_step.Reads as reads
-use Rattle.links.proofs.region_step.Lts as lts
-use Rattle.context.proofs.home_of.Reads as home-of-reads
-use Rattle.links.proofs.is_it.Reads as is-it-reads
 
 is-it-requires : tie.Need-is-it-requires
 is-it-requires c κs = search needs

@@ -1,18 +1,12 @@
 use Rattle.links.proofs.Testing.{no-test, missing-some, no-member-beside, no-mark-beside, tests-beside, standing}
-use Rattle.links.proofs.Sorts.{member-at, no-member, container-at, no-container}
+use Rattle.links.proofs.Sorts.{member-at, no-member}
 use Rattle.context.specs.Memory.{stateOf}
 use Rattle.links.specs.Tests.{memberOf, missingCode}
-use Rattle.places.specs.Members.{insideCode, markCode, homeOf, enterCode, besideCode}
+use Rattle.places.specs.Members.{besideCode}
 use mathlib.Core.Path.{sym, _∙_}
-use Prim.Native.Nat.{_+_}
 use borrow.Author.Needs.{needs}
 use Rattle.links.proofs.test_beside.Statement.{statement}
 use Rattle.links.proofs.test_beside.Tie as tie
-use Rattle.links.proofs.test_beside.Reads as reads
-use Rattle.links.proofs.test_beside.Lts as lts
-use Rattle.context.proofs.find.Reads as find-reads
-use Rattle.links.proofs.may_stand_by.Reads as may-stand-by-reads
-use Rattle.links.proofs.missing.Reads as missing-reads
 
 find-requires : tie.Need-find-requires
 find-requires c κs = search needs

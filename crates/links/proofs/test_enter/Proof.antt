@@ -2,17 +2,12 @@ use Rattle.links.proofs.Testing.{no-test, missing-some, no-member-front
 use Rattle.links.proofs.Sorts.{member-at, no-member, container-at, no-container}
 use Rattle.context.specs.Memory.{stateOf}
 use Rattle.links.specs.Tests.{memberOf, missingCode}
-use Rattle.places.specs.Members.{insideCode, markCode, homeOf, enterCode, besideCode}
+use Rattle.places.specs.Members.{enterCode}
 use mathlib.Core.Path.{sym, _∙_}
 use Prim.Native.Nat.{_+_}
 use borrow.Author.Needs.{needs}
 use Rattle.links.proofs.test_enter.Statement.{statement}
 use Rattle.links.proofs.test_enter.Tie as tie
-use Rattle.links.proofs.test_enter.Reads as reads
-use Rattle.links.proofs.test_enter.Lts as lts
-use Rattle.context.proofs.find.Reads as find-reads
-use Rattle.links.proofs.may_enter.Reads as may-enter-reads
-use Rattle.links.proofs.missing.Reads as missing-reads
 
 find-requires : tie.Need-find-requires
 find-requires c κs = search needs

@@ -2,10 +2,6 @@ use Rattle.links.proofs.Moving.{no-region, no-operation, region-is, ope
 use borrow.Author.Needs.{needs}
 use Rattle.links.proofs.test_move.Statement.{statement}
 use Rattle.links.proofs.test_move.Tie as tie
-use Rattle.links.proofs.test_move.Reads as reads
-use Rattle.links.proofs.test_move.Lts as lts
-use Rattle.context.proofs.find.Reads as find-reads
-use Rattle.links.proofs.may_move.Reads as may-move-reads
 
 find-requires : tie.Need-find-requires
 find-requires c κs = search needs

@@ -2,7 +2,7 @@ use Rattle.links.proofs.Performing.{refused, unlink-gone, unlink-16, un
 use Rattle.links.proofs.Testing.{missing-some}
 use Rattle.links.proofs.Sorts.{member-at, no-member, member<, home-at, may-link, stands-at}
 use Rattle.context.specs.Memory.{stateOf}
-use Rattle.links.specs.Tests.{memberOf, missingCode}
+use Rattle.links.specs.Tests.{memberOf}
 use Rattle.places.specs.Members.{listAt}
 use mathlib.Core.Path.{sym, _∙_}
 use native.Mathlib.Omega.{arith}
@@ -11,12 +11,6 @@ use Rattle.edit.specs.Record.{unlink}
 use borrow.Author.Needs.{needs}
 use Rattle.links.proofs.unlink_from.Statement.{statement}
 use Rattle.links.proofs.unlink_from.Tie as tie
-use Rattle.links.proofs.unlink_from.Reads as reads
-use Rattle.links.proofs.unlink_from.Lts as lts
-use Rattle.context.proofs.find.Reads as find-reads
-use Rattle.context.proofs.home_of.Reads as home-of-reads
-use Rattle.context.proofs.lists.unlink.Reads as unlink-reads
-use Rattle.links.proofs.missing.Reads as missing-reads
 
 find-requires : tie.Need-find-requires
 find-requires c κs = search needs

@@ -4,7 +4,6 @@ use Rattle.context.specs.Memory.{stateOf}
 use Rattle.context.specs.Performed.{abs}
 use Rattle.context.specs.Layout.{kindOf}
 use Rattle.places.specs.Store.{op, blk, reg, val}
-use Prim.Native.Nat.{_-_}
 use borrow.Author.Needs.{needs}
 use Rattle.listing.proofs.put_thing.Statement.{statement}
 use Rattle.listing.proofs.put_thing.Tie as tie

@@ -2,7 +2,6 @@ use Rattle.readers.proofs.Telling.{told-as, value-at, block-at, no-valu
 use Rattle.listing.proofs.Rows.{value-live-at, block-live-at}
 use Rattle.context.proofs.Places.{place<}
 use mathlib.Core.Path.{_∙_}
-use Prim.Native.Nat.{_-_, _<_}
 use Rattle.context.specs.Memory.{stateOf}
 use Rattle.places.specs.Store.{blk, val}
 use native.Mathlib.Omega.{arith}

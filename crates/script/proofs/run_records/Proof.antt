@@ -6,9 +6,7 @@ use native.Mathlib.Omega.{arith}
 use lib.ListN.{length}
 use borrow.Author.Needs.{needs}
 use Rattle.edits.specs.Scratch.{Scratch}
-use Rattle.script.specs.declared.Step.{Step}
-use Rattle.script.specs.declared.Step.the-variants.{Stop, Last, On}
-use Rattle.script.specs.Records.{Stepped, Going, RanWith}
+use Rattle.script.specs.Records.{Stepped, Going}
 use Rattle.script.proofs.Running.{same-room, going-first, going-stop, going-last, going-on, going-end}
 use Rattle.script.proofs.run_records.Statement.{statement}
 use Rattle.script.proofs.run_records.Tie as tie

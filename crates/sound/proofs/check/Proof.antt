@@ -4,11 +4,6 @@ use Rattle.sound.proofs.Laws.{parts-say, store-says}
 use borrow.Author.Needs.{needs}
 use Rattle.sound.proofs.check.Statement.{statement}
 use Rattle.sound.proofs.check.Tie as tie
-use Rattle.sound.proofs.check.Reads as reads
-use Rattle.sound.proofs.check.Lts as lts
-use Rattle.context.proofs.check_parts.Reads as check-parts-reads
-use Rattle.context.proofs.layout_of.Reads as layout-of-reads
-use Rattle.sound.proofs.check_crossing.Reads as check-crossing-reads
 
 returns : tie.Need-returns
 returns c = search needs

@@ -3,11 +3,6 @@ use Rattle.sound.proofs.Laws.{sound-uses, sound-vals, last-says}
 use borrow.Author.Needs.{needs}
 use Rattle.sound.proofs.check_crossing.Statement.{statement}
 use Rattle.sound.proofs.check_crossing.Tie as tie
-use Rattle.sound.proofs.check_crossing.Reads as reads
-use Rattle.sound.proofs.check_crossing.Lts as lts
-use Rattle.sound.proofs.cross_nest.Reads as cross-nest-reads
-use Rattle.sound.proofs.cross_uses.Reads as cross-uses-reads
-use Rattle.sound.proofs.cross_values.Reads as cross-values-reads
 
 cross-uses-requires : tie.Need-cross-uses-requires
 cross-uses-requires c κs = search needs

@@ -1,15 +1,9 @@
 use native.Mathlib.Omega.{arith}
-use Rattle.places.specs.Store.{op, blk, reg, val, usg}
+use Rattle.places.specs.Store.{op, blk, reg}
 use Rattle.sound.proofs.Laws.{small-total, table-end, nest-asked, nest-say}
 use borrow.Author.Needs.{needs}
 use Rattle.sound.proofs.cross_nest.Statement.{statement}
 use Rattle.sound.proofs.cross_nest.Tie as tie
-use Rattle.sound.proofs.cross_nest.Reads as reads
-use Rattle.sound.proofs.cross_nest.Lts as lts
-use Rattle.context.proofs.family_span.Reads as family-span-reads
-use Rattle.context.proofs.flags_at.Reads as flags-at-reads
-use Rattle.context.proofs.table_span.Reads as table-span-reads
-use Rattle.sound_parts.proofs.check_nest.Reads as check-nest-reads
 
 table-span-requires : tie.Need-table-span-requires
 table-span-requires c κs = search needs

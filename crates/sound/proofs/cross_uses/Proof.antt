@@ -1,14 +1,9 @@
 use native.Mathlib.Omega.{arith}
-use Rattle.places.specs.Store.{op, blk, reg, val, usg}
+use Rattle.places.specs.Store.{op, blk, val, usg}
 use Rattle.sound.proofs.Laws.{small-total, table-end, uses-asked, uses-say}
 use borrow.Author.Needs.{needs}
 use Rattle.sound.proofs.cross_uses.Statement.{statement}
 use Rattle.sound.proofs.cross_uses.Tie as tie
-use Rattle.sound.proofs.cross_uses.Reads as reads
-use Rattle.sound.proofs.cross_uses.Lts as lts
-use Rattle.context.proofs.family_span.Reads as family-span-reads
-use Rattle.context.proofs.table_span.Reads as table-span-reads
-use Rattle.sound_parts.proofs.check_uses.Reads as check-uses-reads
 
 table-span-requires : tie.Need-table-span-requires
 table-span-requires c κs = search needs

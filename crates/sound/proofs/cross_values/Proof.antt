@@ -1,14 +1,9 @@
 use native.Mathlib.Omega.{arith}
-use Rattle.places.specs.Store.{op, blk, reg, val, usg}
-use Rattle.sound.proofs.Laws.{small-total, table-end, vals-asked, vals-say}
+use Rattle.places.specs.Store.{op, blk, val}
+use Rattle.sound.proofs.Laws.{table-end, vals-asked, vals-say}
 use borrow.Author.Needs.{needs}
 use Rattle.sound.proofs.cross_values.Statement.{statement}
 use Rattle.sound.proofs.cross_values.Tie as tie
-use Rattle.sound.proofs.cross_values.Reads as reads
-use Rattle.sound.proofs.cross_values.Lts as lts
-use Rattle.context.proofs.family_span.Reads as family-span-reads
-use Rattle.context.proofs.table_span.Reads as table-span-reads
-use Rattle.sound_parts.proofs.check_values.Reads as check-values-reads
 
 table-span-requires : tie.Need-table-span-requires
 table-span-requires c κs = search needs

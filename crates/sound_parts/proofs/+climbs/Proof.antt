@@ -1,4 +1,4 @@
-use mathlib.Core.Path.{_≡_, _∙_}
+use mathlib.Core.Path.{_∙_}
 use Rattle.sound_parts.proofs.Laws.{climb-none, climb-top, climb-block, climb-region, climb-op}
 use borrow.Author.Needs.{needs}
 use native.Mathlib.Omega.{arith}

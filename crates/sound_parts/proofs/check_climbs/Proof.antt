@@ -6,9 +6,6 @@ use borrow.Author.Needs.{needs}
 use native.Mathlib.Omega.{arith}
 use Rattle.sound_parts.proofs.check_climbs.Statement.{statement}
 use Rattle.sound_parts.proofs.check_climbs.Tie as tie
-use Rattle.sound_parts.proofs.check_climbs.Reads as reads
-use Rattle.sound_parts.proofs.check_climbs.Lts as lts
-use Rattle.sound_parts.proofs.climb_at.Reads as climb-at-reads
 
 abbrev Inv-loop : tie.InvT-loop
 Inv-loop to ops blocks regions o b r n p₀ p = (x : ℕ) → x < p → ClimbAt o b r to ops blocks regions n x

@@ -6,9 +6,6 @@ use borrow.Author.Needs.{needs}
 use native.Mathlib.Omega.{arith}
 use Rattle.sound_parts.proofs.check_direct.Statement.{statement}
 use Rattle.sound_parts.proofs.check_direct.Tie as tie
-use Rattle.sound_parts.proofs.check_direct.Reads as reads
-use Rattle.sound_parts.proofs.check_direct.Lts as lts
-use Rattle.sound_parts.proofs.direct_at.Reads as direct-at-reads
 
 abbrev Inv-loop : tie.InvT-loop
 Inv-loop s nc nn tn th q₀ q = (x : ℕ) → x < q → DirectAt nc nn s tn th x

@@ -6,9 +6,6 @@ use borrow.Author.Needs.{needs}
 use native.Mathlib.Omega.{arith}
 use Rattle.sound_parts.proofs.check_flags.Statement.{statement}
 use Rattle.sound_parts.proofs.check_flags.Tie as tie
-use Rattle.sound_parts.proofs.check_flags.Reads as reads
-use Rattle.sound_parts.proofs.check_flags.Lts as lts
-use Rattle.sound_parts.proofs.flag_at.Reads as flag-at-reads
 
 abbrev Inv-loop : tie.InvT-loop
 Inv-loop t n flags p₀ p = (x : ℕ) → x < p → FlagAt n t flags x

@@ -6,9 +6,6 @@ use borrow.Author.Needs.{needs}
 use native.Mathlib.Omega.{arith}
 use Rattle.sound_parts.proofs.check_fork.Statement.{statement}
 use Rattle.sound_parts.proofs.check_fork.Tie as tie
-use Rattle.sound_parts.proofs.check_fork.Reads as reads
-use Rattle.sound_parts.proofs.check_fork.Lts as lts
-use Rattle.sound_parts.proofs.fork_at.Reads as fork-at-reads
 
 abbrev Inv-loop : tie.InvT-loop
 Inv-loop s na nb nn tn ta tb q₀ q = (x : ℕ) → x < q → ForkAt na nb nn s tn ta tb x

@@ -6,9 +6,6 @@ use borrow.Author.Needs.{needs}
 use native.Mathlib.Omega.{arith}
 use Rattle.sound_parts.proofs.check_must.Statement.{statement}
 use Rattle.sound_parts.proofs.check_must.Tie as tie
-use Rattle.sound_parts.proofs.check_must.Reads as reads
-use Rattle.sound_parts.proofs.check_must.Lts as lts
-use Rattle.sound_parts.proofs.must_at.Reads as must-at-reads
 
 abbrev Inv-loop : tie.InvT-loop
 Inv-loop s nc nn t q₀ q = (x : ℕ) → x < q → MustAt nc nn s t x

@@ -1,19 +1,10 @@
 use Rattle.table.proofs.Laws.{says-no, says-yes}
-use Prim.Native.Nat.{ℕ, _+_, _*_}
+use Prim.Native.Nat.{ℕ}
 use mathlib.Core.Path.{sym, subst}
-use Rattle.sound_parts.specs.Tests.{Slots, Must, Fork, Short, Direct, Flags, Climbs}
-use native.Mathlib.Omega.{arith}
+use Rattle.sound_parts.specs.Tests.{Must, Short, Direct, Flags, Climbs}
 use borrow.Author.Needs.{needs}
 use Rattle.sound_parts.proofs.check_nest.Statement.{statement}
 use Rattle.sound_parts.proofs.check_nest.Tie as tie
-use Rattle.sound_parts.proofs.check_nest.Reads as reads
-use Rattle.sound_parts.proofs.check_nest.Lts as lts
-use Rattle.sound_parts.proofs.check_climbs.Reads as check-climbs-reads
-use Rattle.sound_parts.proofs.check_direct.Reads as check-direct-reads
-use Rattle.sound_parts.proofs.check_flags.Reads as check-flags-reads
-use Rattle.sound_parts.proofs.check_must.Reads as check-must-reads
-use Rattle.sound_parts.proofs.check_short.Reads as check-short-reads
-use Rattle.sound_parts.proofs.wide.Reads as wide-reads
 
 check-direct-requires : tie.Need-check-direct-requires
 check-direct-requires c κs = search needs

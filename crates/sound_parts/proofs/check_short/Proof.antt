@@ -6,9 +6,6 @@ use borrow.Author.Needs.{needs}
 use native.Mathlib.Omega.{arith}
 use Rattle.sound_parts.proofs.check_short.Statement.{statement}
 use Rattle.sound_parts.proofs.check_short.Tie as tie
-use Rattle.sound_parts.proofs.check_short.Reads as reads
-use Rattle.sound_parts.proofs.check_short.Lts as lts
-use Rattle.linked_list.proofs.count.Reads as count-reads
 
 abbrev Inv-loop : tie.InvT-loop
 Inv-loop s nc nn c₀ c = (x : ℕ) → x < c → length (row nc nn s x) ≤ 64

@@ -1,6 +1,6 @@
 use mathlib.Core.Path.{_≡_, refl}
 use mathlib.Core.Bool.{true}
-use Prim.Native.Nat.{ℕ, zero, suc, _+_, _-_, _*_, _<_, _≤_}
+use Prim.Native.Nat.{ℕ, zero, _+_, _-_, _*_, _<_, _≤_}
 use lib.ListN.{length}
 use borrow.Author.Count.{below-more}
 use Rattle.table.proofs.Laws.{says-no, says-yes}
@@ -12,10 +12,6 @@ use borrow.Author.Needs.{needs}
 use native.Mathlib.Omega.{arith}
 use Rattle.sound_parts.proofs.check_slots.Statement.{statement}
 use Rattle.sound_parts.proofs.check_slots.Tie as tie
-use Rattle.sound_parts.proofs.check_slots.Reads as reads
-use Rattle.sound_parts.proofs.check_slots.Lts as lts
-use Rattle.sound_parts.proofs.use_at.Reads as use-at-reads
-use Rattle.sound_parts.proofs.wide.Reads as wide-reads
 
 abbrev Inv-loop2 : tie.InvT-loop2
 Inv-loop2 to o tu u slots sets v b ok₀ p c k₀ j₀ ok k j = (ok ≡ true) × UsesTo o b v u to tu slots sets c k j

@@ -1,16 +1,9 @@
 use Rattle.table.proofs.Laws.{says-no, says-yes}
-use Prim.Native.Nat.{ℕ, _+_, _*_}
-use mathlib.Core.Path.{sym, subst}
-use Rattle.sound_parts.specs.Tests.{Slots, Must, Fork, Short, Direct, Flags, Climbs}
-use native.Mathlib.Omega.{arith}
+use Prim.Native.Nat.{_*_}
+use Rattle.sound_parts.specs.Tests.{Slots, Must, Fork}
 use borrow.Author.Needs.{needs}
 use Rattle.sound_parts.proofs.check_uses.Statement.{statement}
 use Rattle.sound_parts.proofs.check_uses.Tie as tie
-use Rattle.sound_parts.proofs.check_uses.Reads as reads
-use Rattle.sound_parts.proofs.check_uses.Lts as lts
-use Rattle.sound_parts.proofs.check_fork.Reads as check-fork-reads
-use Rattle.sound_parts.proofs.check_must.Reads as check-must-reads
-use Rattle.sound_parts.proofs.check_slots.Reads as check-slots-reads
 
 check-slots-requires : tie.Need-check-slots-requires
 check-slots-requires c κs = search needs

@@ -1,16 +1,9 @@
 use Rattle.table.proofs.Laws.{says-no, says-yes}
-use Prim.Native.Nat.{ℕ, _+_, _*_}
-use mathlib.Core.Path.{sym, subst}
-use Rattle.sound_parts.specs.Tests.{Slots, Must, Fork, Short, Direct, Flags, Climbs}
-use native.Mathlib.Omega.{arith}
+use Prim.Native.Nat.{_+_}
+use Rattle.sound_parts.specs.Tests.{Must, Fork, Short}
 use borrow.Author.Needs.{needs}
 use Rattle.sound_parts.proofs.check_values.Statement.{statement}
 use Rattle.sound_parts.proofs.check_values.Tie as tie
-use Rattle.sound_parts.proofs.check_values.Reads as reads
-use Rattle.sound_parts.proofs.check_values.Lts as lts
-use Rattle.sound_parts.proofs.check_fork.Reads as check-fork-reads
-use Rattle.sound_parts.proofs.check_must.Reads as check-must-reads
-use Rattle.sound_parts.proofs.check_short.Reads as check-short-reads
 
 check-fork-requires : tie.Need-check-fork-requires
 check-fork-requires c κs = search needs

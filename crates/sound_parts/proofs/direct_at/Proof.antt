@@ -1,13 +1,9 @@
-use Prim.Native.Nat.{ℕ, _-_}
+use Prim.Native.Nat.{_-_}
 use mathlib.Core.Path.{_≡_}
 use native.Mathlib.Omega.{arith}
 use borrow.Author.Needs.{needs}
 use Rattle.sound_parts.proofs.direct_at.Statement.{statement}
 use Rattle.sound_parts.proofs.direct_at.Tie as tie
-use Rattle.sound_parts.proofs.direct_at.Reads as reads
-use Rattle.sound_parts.proofs.direct_at.Lts as lts
-use Rattle.sound_parts.proofs.home_at.Reads as home-at-reads
-use Rattle.sound_parts.proofs.stamp_at.Reads as stamp-at-reads
 
 home-at-requires : tie.Need-home-at-requires
 home-at-requires c κs = search needs

@@ -1,13 +1,9 @@
-use Prim.Native.Nat.{ℕ, _-_}
+use Prim.Native.Nat.{_-_}
 use mathlib.Core.Path.{_≡_}
 use native.Mathlib.Omega.{arith}
 use borrow.Author.Needs.{needs}
 use Rattle.sound_parts.proofs.fork_at.Statement.{statement}
 use Rattle.sound_parts.proofs.fork_at.Tie as tie
-use Rattle.sound_parts.proofs.fork_at.Reads as reads
-use Rattle.sound_parts.proofs.fork_at.Lts as lts
-use Rattle.sound_parts.proofs.home_at.Reads as home-at-reads
-use Rattle.sound_parts.proofs.stamp_at.Reads as stamp-at-reads
 
 add-home-at : tie.Need-add-home-at
 add-home-at c = search needs

@@ -3,9 +3,6 @@ use native.Mathlib.Omega.{arith}
 use borrow.Author.Needs.{needs}
 use Rattle.sound_parts.proofs.home_at.Statement.{statement}
 use Rattle.sound_parts.proofs.home_at.Tie as tie
-use Rattle.sound_parts.proofs.home_at.Reads as reads
-use Rattle.sound_parts.proofs.home_at.Lts as lts
-use Rattle.sound_parts.proofs.wide.Reads as wide-reads
 
 mul-wide : tie.Need-mul-wide
 mul-wide c = search needs

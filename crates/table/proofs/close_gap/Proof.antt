@@ -5,8 +5,6 @@ use lib.ListN.{length}
 use Rattle.table.proofs.Shifts.{Part, begun, part-more, closed}
 use Rattle.table.proofs.close_gap.Statement.{statement}
 use Rattle.table.proofs.close_gap.Tie as tie
-use Rattle.table.proofs.close_gap.Reads as reads
-use Rattle.table.proofs.close_gap.Lts as lts
 
 abbrev Inv-loop : tie.InvT-loop
 Inv-loop s₀ i₀ s i = Part s₀ s i

@@ -8,12 +8,6 @@ use Rattle.table.proofs.Laws.{at-rank, ordered}
 use Rattle.table.proofs.Cells.{shifted-by, ended}
 use Rattle.table.proofs.end.Statement.{statement}
 use Rattle.table.proofs.end.Tie as tie
-use Rattle.table.proofs.end.Reads as reads
-use Rattle.table.proofs.end.Lts as lts
-use Rattle.table.proofs.get.Reads as get-reads
-use Rattle.table.proofs.put.Reads as put-reads
-use Rattle.table.proofs.rank.Reads as rank-reads
-use Rattle.table.proofs.shift.Reads as shift-reads
 
 -- the rank is the position of the thing at p
 at : (c : tie.After-get2) → (c .before .before .rank .result < count (c .before .before .before .before .before .before .before .args .t .now)) × (order (c .before .before .before .before .before .before .before .args .t .now) (c .before .before .rank .result) ≡ c .before .before .before .before .before .before .before .args .p)

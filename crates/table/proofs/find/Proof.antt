@@ -1,17 +1,12 @@
 -- The rank is where the number must stand. Assumes nothing.
 use mathlib.Core.Path.{sym, ap, _∙_}
-use Prim.Native.Nat.{ℕ, _+_, _-_, _≤_, _<_}
+use Prim.Native.Nat.{_<_}
 use native.Mathlib.Omega.{arith}
 use borrow.Author.Needs.{needs}
 use Rattle.table.specs.Table.{findIn}
 use Rattle.table.proofs.Laws.{find-hit, find-other, find-past}
 use Rattle.table.proofs.find.Statement.{statement}
 use Rattle.table.proofs.find.Tie as tie
-use Rattle.table.proofs.find.Reads as reads
-use Rattle.table.proofs.find.Lts as lts
-use Rattle.table.proofs.get.Reads as get-reads
-use Rattle.table.proofs.rank.Reads as rank-reads
-use Rattle.table.proofs.wide.Reads as wide-reads
 
 -- the place at the rank
 p-in : (c : tie.After-get2) → c .get2 .result < c .before .before .before .before .before .before .args .n

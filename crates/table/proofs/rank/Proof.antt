@@ -6,12 +6,6 @@ use Rattle.table.proofs.Numbers.{bracket, count-next}
 use borrow.Author.Needs.{needs}
 use Rattle.table.proofs.rank.Statement.{statement}
 use Rattle.table.proofs.rank.Tie as tie
-use Rattle.table.proofs.rank.Reads as reads
-use Rattle.table.proofs.rank.Lts as lts
-use Rattle.table.proofs.get.Reads as get-reads
-use Rattle.table.proofs.least.Reads as least-reads
-use Rattle.table.proofs.less.Reads as less-reads
-use Rattle.table.proofs.rank_between.Reads as rank-between-reads
 
 get-requires : tie.Need-get-requires
 get-requires c κs = search needs

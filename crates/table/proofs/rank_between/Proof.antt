@@ -6,12 +6,9 @@ use Prim.Native.Nat.{ℕ, _+_, _-_, _/_, _≤_, _<_}
 use native.Mathlib.Omega.{arith}
 use native.Mathlib.Nat.{eq-or-lt-of-le}
 use borrow.Author.Needs.{needs}
-use Rattle.table.specs.Table.{Table, Bracket, Rank, count, order, stamp}
+use Rattle.table.specs.Table.{Table, Bracket, count, order, stamp}
 use Rattle.table.proofs.rank_between.Statement.{statement}
 use Rattle.table.proofs.rank_between.Tie as tie
-use Rattle.table.proofs.rank_between.Reads as reads
-use Rattle.table.proofs.rank_between.Lts as lts
-use Rattle.table.proofs.get.Reads as get-reads
 
 abbrev Inv-loop : tie.InvT-loop
 Inv-loop t n x from to lo₀ hi₀ lo hi = Bracket n t x lo hi

@@ -4,9 +4,6 @@ use Rattle.context.proofs.Places.{place<}
 use Rattle.uses.proofs.Choosing.{slot-pos, user<, block-of}
 use Rattle.uses.proofs.block_of.Statement.{statement}
 use Rattle.uses.proofs.block_of.Tie as tie
-use Rattle.uses.proofs.block_of.Reads as reads
-use Rattle.uses.proofs.block_of.Lts as lts
-use Rattle.context.proofs.home_of.Reads as home-of-reads
 
 home-of-requires : tie.Need-home-of-requires
 home-of-requires c κs =

@@ -2,9 +2,6 @@ use native.Mathlib.Omega.{arith}
 use Rattle.uses.proofs.Looking.{value-lives, block-lives, value-number, block-number}
 use Rattle.uses.proofs.def_number.Statement.{statement}
 use Rattle.uses.proofs.def_number.Tie as tie
-use Rattle.uses.proofs.def_number.Reads as reads
-use Rattle.uses.proofs.def_number.Lts as lts
-use Rattle.context.proofs.number_of.Reads as number-of-reads
 
 number-of-requires : tie.Need-number-of-requires
 number-of-requires c κs =

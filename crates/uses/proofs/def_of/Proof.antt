@@ -3,9 +3,6 @@ use Rattle.uses.proofs.Looking.{value-found, no-block, b<, block-found}
 use borrow.Author.Needs.{needs}
 use Rattle.uses.proofs.def_of.Statement.{statement}
 use Rattle.uses.proofs.def_of.Tie as tie
-use Rattle.uses.proofs.def_of.Reads as reads
-use Rattle.uses.proofs.def_of.Lts as lts
-use Rattle.context.proofs.find.Reads as find-reads
 
 find-requires : tie.Need-find-requires
 find-requires c κs = search needs

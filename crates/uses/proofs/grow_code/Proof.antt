@@ -3,9 +3,6 @@ use Rattle.uses.proofs.Looking.{past-end, full, grows}
 use borrow.Author.Needs.{needs}
 use Rattle.uses.proofs.grow_code.Statement.{statement}
 use Rattle.uses.proofs.grow_code.Tie as tie
-use Rattle.uses.proofs.grow_code.Reads as reads
-use Rattle.uses.proofs.grow_code.Lts as lts
-use Rattle.context.proofs.room_for.Reads as room-for-reads
 
 returns : tie.Need-returns
 returns c =

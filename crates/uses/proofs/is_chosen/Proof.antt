@@ -4,11 +4,6 @@ use Rattle.edit.specs.Taken.{fields-of}
 use Rattle.uses.proofs.Choosing.{in-none, in-block, block-live}
 use Rattle.uses.proofs.is_chosen.Statement.{statement}
 use Rattle.uses.proofs.is_chosen.Tie as tie
-use Rattle.uses.proofs.is_chosen.Reads as reads
-use Rattle.uses.proofs.is_chosen.Lts as lts
-use Rattle.context.proofs.number_of.Reads as number-of-reads
-use Rattle.uses.proofs.block_of.Reads as block-of-reads
-use Rattle.uses.proofs.is_listed.Reads as is-listed-reads
 
 block-of-requires : tie.Need-block-of-requires
 block-of-requires c κs = search needs

@@ -8,10 +8,6 @@ use Rattle.rules.specs.Table.{member}
 use Rattle.uses.proofs.Choosing.{met, passed, none-listed}
 use Rattle.uses.proofs.is_listed.Statement.{statement}
 use Rattle.uses.proofs.is_listed.Tie as tie
-use Rattle.uses.proofs.is_listed.Reads as reads
-use Rattle.uses.proofs.is_listed.Lts as lts
-use Rattle.edit.proofs.field.Reads as field-reads
-use Rattle.edit.proofs.field_count.Reads as field-count-reads
 
 abbrev Inv-loop : tie.InvT-loop
 Inv-loop rec number n i₀ i = member number (drop i (fields-of rec)) ≡ member number (drop 2 (fields-of rec))

@@ -1,8 +1,6 @@
 use Rattle.uses.proofs.Looking.{missing-value, missing-block}
 use Rattle.uses.proofs.missing.Statement.{statement}
 use Rattle.uses.proofs.missing.Tie as tie
-use Rattle.uses.proofs.missing.Reads as reads
-use Rattle.uses.proofs.missing.Lts as lts
 
 returns : tie.Need-returns
 returns c =

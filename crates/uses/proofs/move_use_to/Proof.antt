@@ -10,13 +10,6 @@ use Rattle.context.proofs.Places.{place<}
 use borrow.Author.Needs.{needs}
 use Rattle.uses.proofs.move_use_to.Statement.{statement}
 use Rattle.uses.proofs.move_use_to.Tie as tie
-use Rattle.uses.proofs.move_use_to.Reads as reads
-use Rattle.uses.proofs.move_use_to.Lts as lts
-use Rattle.context.proofs.find.Reads as find-reads
-use Rattle.context.proofs.home_of.Reads as home-of-reads
-use Rattle.context.proofs.value.move_use.Reads as move-use-reads
-use Rattle.uses.proofs.def_of.Reads as def-of-reads
-use Rattle.uses.proofs.missing.Reads as missing-reads
 
 def-of-requires : tie.Need-def-of-requires
 def-of-requires c κs = search needs

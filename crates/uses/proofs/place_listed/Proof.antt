@@ -7,11 +7,6 @@ use Rattle.edit.specs.Taken.{fields-of}
 use Rattle.uses.proofs.Placing.{Going, begins, goes-on, ends}
 use Rattle.uses.proofs.place_listed.Statement.{statement}
 use Rattle.uses.proofs.place_listed.Tie as tie
-use Rattle.uses.proofs.place_listed.Reads as reads
-use Rattle.uses.proofs.place_listed.Lts as lts
-use Rattle.edit.proofs.field.Reads as field-reads
-use Rattle.edit.proofs.field_count.Reads as field-count-reads
-use Rattle.uses.proofs.place_one.Reads as place-one-reads
 
 abbrev Inv-loop : tie.InvT-loop
 Inv-loop m₀ l d e rec n i₀ m i = (length m ≡ length m₀) × Going l d e (fields-of rec) m₀ i m

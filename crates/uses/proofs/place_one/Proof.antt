@@ -5,11 +5,6 @@ use Rattle.uses.proofs.Placing.{no-use, elsewhere, can-move, there}
 use borrow.Author.Needs.{needs}
 use Rattle.uses.proofs.place_one.Statement.{statement}
 use Rattle.uses.proofs.place_one.Tie as tie
-use Rattle.uses.proofs.place_one.Reads as reads
-use Rattle.uses.proofs.place_one.Lts as lts
-use Rattle.context.proofs.find.Reads as find-reads
-use Rattle.context.proofs.home_of.Reads as home-of-reads
-use Rattle.context.proofs.value.move_use.Reads as move-use-reads
 
 find-requires : tie.Need-find-requires
 find-requires c κs = search needs

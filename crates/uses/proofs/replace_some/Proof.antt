@@ -11,11 +11,6 @@ use Rattle.context.proofs.Performing.{as-asked}
 use Rattle.uses.proofs.Placing.{some-edit, replaced-some}
 use Rattle.uses.proofs.replace_some.Statement.{statement}
 use Rattle.uses.proofs.replace_some.Tie as tie
-use Rattle.uses.proofs.replace_some.Reads as reads
-use Rattle.uses.proofs.replace_some.Lts as lts
-use Rattle.edit.proofs.field.Reads as field-reads
-use Rattle.uses.proofs.def_of.Reads as def-of-reads
-use Rattle.uses.proofs.place_listed.Reads as place-listed-reads
 
 field-requires : tie.Need-field-requires
 field-requires c κs = search needs

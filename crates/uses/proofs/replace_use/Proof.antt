@@ -10,16 +10,6 @@ use Rattle.uses.proofs.Replacing.{past-end, no-number, can-bear, replac
 use borrow.Author.Needs.{needs}
 use Rattle.uses.proofs.replace_use.Statement.{statement}
 use Rattle.uses.proofs.replace_use.Tie as tie
-use Rattle.uses.proofs.replace_use.Reads as reads
-use Rattle.uses.proofs.replace_use.Lts as lts
-use Rattle.context.proofs.value.birth_use.Reads as birth-use-reads
-use Rattle.context.proofs.value.end_use.Reads as end-use-reads
-use Rattle.context.proofs.next_number.Reads as next-number-reads
-use Rattle.context.proofs.nth_of.Reads as nth-of-reads
-use Rattle.context.proofs.row_length.Reads as row-length-reads
-use Rattle.uses.proofs.def_of.Reads as def-of-reads
-use Rattle.uses.proofs.missing.Reads as missing-reads
-use Rattle.uses.proofs.slot_of.Reads as slot-of-reads
 
 slot-of-requires : tie.Need-slot-of-requires
 slot-of-requires c κs = search needs

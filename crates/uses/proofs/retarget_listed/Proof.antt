@@ -7,11 +7,6 @@ use Rattle.context.proofs.Cursor.{ahead, here}
 use Rattle.uses.proofs.Retargeting.{Going, begins, can-move, goes-on, all-passed}
 use Rattle.uses.proofs.retarget_listed.Statement.{statement}
 use Rattle.uses.proofs.retarget_listed.Tie as tie
-use Rattle.uses.proofs.retarget_listed.Reads as reads
-use Rattle.uses.proofs.retarget_listed.Lts as lts
-use Rattle.context.proofs.first_of.Reads as first-of-reads
-use Rattle.context.proofs.next_of.Reads as next-of-reads
-use Rattle.uses.proofs.retarget_one.Reads as retarget-one-reads
 
 abbrev Inv-loop : tie.InvT-loop
 Inv-loop m₀ l d e rec k₀ m k = (length m ≡ length m₀) × Going l d e (drop 2 (fields-of rec)) m₀ k m

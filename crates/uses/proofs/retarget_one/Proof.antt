@@ -4,10 +4,6 @@ use Rattle.uses.specs.Retarget.{RetargetedOne}
 use Rattle.uses.proofs.Choosing.{not-true, not-false}
 use Rattle.uses.proofs.retarget_one.Statement.{statement}
 use Rattle.uses.proofs.retarget_one.Tie as tie
-use Rattle.uses.proofs.retarget_one.Reads as reads
-use Rattle.uses.proofs.retarget_one.Lts as lts
-use Rattle.context.proofs.value.move_use.Reads as move-use-reads
-use Rattle.uses.proofs.is_chosen.Reads as is-chosen-reads
 
 is-chosen-requires : tie.Need-is-chosen-requires
 is-chosen-requires c κs = (c .before .before .before .pre .0, c .before .before .before .pre .1 .1 .live)

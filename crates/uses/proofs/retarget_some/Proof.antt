@@ -11,12 +11,6 @@ use Rattle.context.proofs.Performing.{as-asked}
 use Rattle.uses.proofs.RetargetEdit.{retarget-edit, is-stray, same-block, retargeted}
 use Rattle.uses.proofs.retarget_some.Statement.{statement}
 use Rattle.uses.proofs.retarget_some.Tie as tie
-use Rattle.uses.proofs.retarget_some.Reads as reads
-use Rattle.uses.proofs.retarget_some.Lts as lts
-use Rattle.edit.proofs.field.Reads as field-reads
-use Rattle.uses.proofs.def_of.Reads as def-of-reads
-use Rattle.uses.proofs.stray_user.Reads as stray-user-reads
-use Rattle.uses.proofs.retarget_listed.Reads as retarget-listed-reads
 
 field-requires : tie.Need-field-requires
 field-requires c κs = search needs

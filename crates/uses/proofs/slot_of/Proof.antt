@@ -3,9 +3,6 @@ use Rattle.uses.proofs.Looking.{no-operation, o<, first-list, second-li
 use borrow.Author.Needs.{needs}
 use Rattle.uses.proofs.slot_of.Statement.{statement}
 use Rattle.uses.proofs.slot_of.Tie as tie
-use Rattle.uses.proofs.slot_of.Reads as reads
-use Rattle.uses.proofs.slot_of.Lts as lts
-use Rattle.context.proofs.find.Reads as find-reads
 
 find-requires : tie.Need-find-requires
 find-requires c κs = search needs

@@ -5,11 +5,6 @@ use Rattle.context.proofs.Cursor.{ahead, here}
 use Rattle.uses.proofs.Choosing.{is-stray, not-stray, Searching, searching, hit, miss, shorter, over}
 use Rattle.uses.proofs.stray_user.Statement.{statement}
 use Rattle.uses.proofs.stray_user.Tie as tie
-use Rattle.uses.proofs.stray_user.Reads as reads
-use Rattle.uses.proofs.stray_user.Lts as lts
-use Rattle.context.proofs.first_of.Reads as first-of-reads
-use Rattle.context.proofs.next_of.Reads as next-of-reads
-use Rattle.uses.proofs.block_of.Reads as block-of-reads
 
 abbrev Inv-loop : tie.InvT-loop
 Inv-loop m l d k₀ k = Searching l d m k

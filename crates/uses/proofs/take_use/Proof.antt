@@ -3,12 +3,6 @@ use Rattle.uses.proofs.Taking.{nth-live, home-pos, def-live, taken}
 use borrow.Author.Needs.{needs}
 use Rattle.uses.proofs.take_use.Statement.{statement}
 use Rattle.uses.proofs.take_use.Tie as tie
-use Rattle.uses.proofs.take_use.Reads as reads
-use Rattle.uses.proofs.take_use.Lts as lts
-use Rattle.context.proofs.value.end_use.Reads as end-use-reads
-use Rattle.context.proofs.home_of.Reads as home-of-reads
-use Rattle.context.proofs.nth_of.Reads as nth-of-reads
-use Rattle.uses.proofs.def_number.Reads as def-number-reads
 
 nth-of-requires : tie.Need-nth-of-requires
 nth-of-requires c κs = search needs

@@ -3,9 +3,6 @@ use Rattle.values.proofs.Looking.{past-end, full, grows}
 use borrow.Author.Needs.{needs}
 use Rattle.values.proofs.grow_code.Statement.{statement}
 use Rattle.values.proofs.grow_code.Tie as tie
-use Rattle.values.proofs.grow_code.Reads as reads
-use Rattle.values.proofs.grow_code.Lts as lts
-use Rattle.context.proofs.room_for.Reads as room-for-reads
 
 returns : tie.Need-returns
 returns c = past-end (c .before .before .args .n) (c .before .before .args .i) (c .if1 .taken)

@@ -1,5 +1,3 @@
-use native.Mathlib.Omega.{arith}
-use mathlib.Core.Path.{refl}
 use mathlib.Core.List.{[]}
 use Rattle.edit.specs.Record.{insert-value}
 use Rattle.values.specs.Look.{memberBy}
@@ -8,13 +6,6 @@ use Rattle.values.proofs.Growing.{names-insert, lost-owner, can-bear, i
 use borrow.Author.Needs.{needs}
 use Rattle.values.proofs.insert_value.Statement.{statement}
 use Rattle.values.proofs.insert_value.Tie as tie
-use Rattle.values.proofs.insert_value.Reads as reads
-use Rattle.values.proofs.insert_value.Lts as lts
-use Rattle.context.proofs.value.birth_value.Reads as birth-value-reads
-use Rattle.context.proofs.row_length.Reads as row-length-reads
-use Rattle.values.proofs.grow_code.Reads as grow-code-reads
-use Rattle.values.proofs.missing.Reads as missing-reads
-use Rattle.values.proofs.values_of.Reads as values-of-reads
 
 values-of-requires : tie.Need-values-of-requires
 values-of-requires c κs = search needs

@@ -1,9 +1,7 @@
-use Rattle.values.proofs.Looking.{missing-operation, missing-block}
+use Rattle.values.proofs.Looking.{missing-block}
 use borrow.Author.Needs.{needs}
 use Rattle.values.proofs.missing.Statement.{statement}
 use Rattle.values.proofs.missing.Tie as tie
-use Rattle.values.proofs.missing.Reads as reads
-use Rattle.values.proofs.missing.Lts as lts
 
 returns : tie.Need-returns
 returns c = search needs

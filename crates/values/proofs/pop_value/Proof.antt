@@ -10,12 +10,6 @@ use Rattle.values.proofs.Taking.{names-pop, pop-empty, pop-used, popped
 use borrow.Author.Needs.{needs}
 use Rattle.values.proofs.pop_value.Statement.{statement}
 use Rattle.values.proofs.pop_value.Tie as tie
-use Rattle.values.proofs.pop_value.Reads as reads
-use Rattle.values.proofs.pop_value.Lts as lts
-use Rattle.context.proofs.row_length.Reads as row-length-reads
-use Rattle.values.proofs.missing.Reads as missing-reads
-use Rattle.values.proofs.take_value.Reads as take-value-reads
-use Rattle.values.proofs.values_of.Reads as values-of-reads
 
 values-of-requires : tie.Need-values-of-requires
 values-of-requires c κs = search needs

@@ -8,13 +8,6 @@ use Rattle.values.proofs.Growing.{names-push, lost-owner, can-bear, pus
 use borrow.Author.Needs.{needs}
 use Rattle.values.proofs.push_value.Statement.{statement}
 use Rattle.values.proofs.push_value.Tie as tie
-use Rattle.values.proofs.push_value.Reads as reads
-use Rattle.values.proofs.push_value.Lts as lts
-use Rattle.context.proofs.value.birth_value.Reads as birth-value-reads
-use Rattle.context.proofs.row_length.Reads as row-length-reads
-use Rattle.values.proofs.grow_code.Reads as grow-code-reads
-use Rattle.values.proofs.missing.Reads as missing-reads
-use Rattle.values.proofs.values_of.Reads as values-of-reads
 
 values-of-requires : tie.Need-values-of-requires
 values-of-requires c κs = search needs

@@ -1,6 +1,4 @@
 use native.Mathlib.Omega.{arith}
-use Prim.Native.Nat.{_-_}
-use mathlib.Core.Path.{refl}
 use mathlib.Core.List.{[]}
 use Rattle.edit.specs.Record.{remove-value}
 use Rattle.values.specs.Look.{memberBy}
@@ -10,12 +8,6 @@ use Rattle.values.proofs.Taking.{names-remove, remove-past, remove-used
 use borrow.Author.Needs.{needs}
 use Rattle.values.proofs.remove_value.Statement.{statement}
 use Rattle.values.proofs.remove_value.Tie as tie
-use Rattle.values.proofs.remove_value.Reads as reads
-use Rattle.values.proofs.remove_value.Lts as lts
-use Rattle.context.proofs.row_length.Reads as row-length-reads
-use Rattle.values.proofs.missing.Reads as missing-reads
-use Rattle.values.proofs.take_value.Reads as take-value-reads
-use Rattle.values.proofs.values_of.Reads as values-of-reads
 
 values-of-requires : tie.Need-values-of-requires
 values-of-requires c κs = search needs

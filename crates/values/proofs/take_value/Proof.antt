@@ -2,11 +2,6 @@ use Rattle.values.proofs.Looking.{is-used, unused, taken}
 use borrow.Author.Needs.{needs}
 use Rattle.values.proofs.take_value.Statement.{statement}
 use Rattle.values.proofs.take_value.Tie as tie
-use Rattle.values.proofs.take_value.Reads as reads
-use Rattle.values.proofs.take_value.Lts as lts
-use Rattle.context.proofs.value.end_value.Reads as end-value-reads
-use Rattle.context.proofs.first_of.Reads as first-of-reads
-use Rattle.context.proofs.nth_of.Reads as nth-of-reads
 
 nth-of-requires : tie.Need-nth-of-requires
 nth-of-requires c κs = search needs

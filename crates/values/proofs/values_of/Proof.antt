@@ -3,9 +3,6 @@ use Rattle.values.proofs.Looking.{operation-found, no-block, b<, block-
 use borrow.Author.Needs.{needs}
 use Rattle.values.proofs.values_of.Statement.{statement}
 use Rattle.values.proofs.values_of.Tie as tie
-use Rattle.values.proofs.values_of.Reads as reads
-use Rattle.values.proofs.values_of.Lts as lts
-use Rattle.context.proofs.find.Reads as find-reads
 
 find-requires : tie.Need-find-requires
 find-requires c κs = search needs

@@ -1,9 +1,9 @@
-use mathlib.Core.Path.{_≡_, refl, sym, ap, _∙_}
+use mathlib.Core.Path.{_≡_, refl, _∙_}
 use Prim.Native.Nat.{ℕ, _+_, _*_, _<_}
 use native.Mathlib.Omega.{arith}
 use lib.ListN.{length}
 use borrow.Author.Needs.{needs}
-use Rattle.places.specs.Store.{Kind, op, blk, reg, Thing}
+use Rattle.places.specs.Store.{op, blk, reg}
 use Rattle.walk.proofs.DropWalk.{in-op, in-region, in-block, Dropping, ahead, begun, child, no-more, asked, turn, less, whole, whole-op, row<, ready-op, ready-region, ready-block, blk-no-op, reg-no-op}
 use borrow.Fn.Kinds.{In}
 use borrow.Fn.PlainCycle.{Measures, is, falls, and}

@@ -2,14 +2,14 @@ use Rattle.context.specs.Layout.{kindOf}
 use Rattle.context.specs.Memory.{stateOf}
 use Rattle.walk.proofs.KindCodes.{place-op}
 use borrow.Author.Needs.{needs}
-use mathlib.Core.Path.{_≡_, refl, sym, ap, _∙_}
+use mathlib.Core.Path.{_∙_}
 use native.Mathlib.Omega.{arith}
 use Rattle.context.specs.Layout.{famOf}
 use Rattle.context.proofs.Cursor.{ahead, here, next-less}
 use Rattle.walk.proofs.EraseWalk.{inner-list}
 use Rattle.walk.proofs.Strays.{child-testable}
 use Rattle.walk.proofs.Marks.{given-nowhere, Marking, marking, marking-on, marked}
-use Prim.Native.Nat.{ℕ, _+_, _-_, _<_}
+use Prim.Native.Nat.{ℕ, _+_, _<_}
 use borrow.Fn.Kinds.{In}
 use borrow.Fn.PlainCycle.{Measures, is, falls, and}
 use Rattle.walk.proofs.mark_within.Reads as mark-within

@@ -1,11 +1,9 @@
 use borrow.Author.Needs.{needs}
-use mathlib.Core.Path.{_≡_, refl, sym, ap, _∙_}
-use mathlib.Core.Bool.{Bool, true, false, not, _&&_, _||_}
-use Prim.Native.Nat.{ℕ, _+_, _-_, _*_, _<_}
+use mathlib.Core.Path.{sym, ap, _∙_}
+use Prim.Native.Nat.{ℕ, _<_}
 use native.Mathlib.Omega.{arith}
-use Rattle.places.specs.Store.{op, blk, reg, usg, Live, up, slots, useSets, regs, opsIn, blocksIn}
+use Rattle.places.specs.Store.{op, blk, reg, regs, opsIn, blocksIn}
 use Rattle.context.specs.Memory.{stateOf}
-use Rattle.context.proofs.Places.{place<}
 use Rattle.places.specs.Verdict.{blockVerdict, regionVerdict}
 use Rattle.places.proofs.Runs.{measure}
 use Rattle.walk.specs.Judge.{onOp}

@@ -2,9 +2,6 @@ use borrow.Author.Needs.{needs}
 use Rattle.walk.proofs.KindCodes.{deep-enough}
 use Rattle.walk.proofs.depth.Statement.{statement}
 use Rattle.walk.proofs.depth.Tie as tie
-use Rattle.walk.proofs.depth.Reads as reads
-use Rattle.walk.proofs.depth.Lts as lts
-use Rattle.context.proofs.live_count.Reads as live-count-reads
 
 live-count-requires : tie.Need-live-count-requires
 live-count-requires c κs = search needs

@@ -3,11 +3,6 @@ use Rattle.walk.proofs.KindCodes.{third}
 use Rattle.walk.proofs.EraseWalk.{can-drop-as, dropped-as}
 use Rattle.walk.proofs.drop_inside.Statement.{statement}
 use Rattle.walk.proofs.drop_inside.Tie as tie
-use Rattle.walk.proofs.drop_inside.Reads as reads
-use Rattle.walk.proofs.drop_inside.Lts as lts
-use Rattle.walk.proofs.drop_block.Reads as drop-block-reads
-use Rattle.walk.proofs.drop_operation.Reads as drop-operation-reads
-use Rattle.walk.proofs.drop_region.Reads as drop-region-reads
 
 drop-operation-requires : tie.Need-drop-operation-requires
 drop-operation-requires c κs =

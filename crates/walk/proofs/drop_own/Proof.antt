@@ -3,9 +3,6 @@ use borrow.Author.Needs.{needs}
 use Rattle.walk.proofs.OwnUses.{place, first-row, second-row, one-left, few-a, few-b, own-dropped}
 use Rattle.walk.proofs.drop_own.Statement.{statement}
 use Rattle.walk.proofs.drop_own.Tie as tie
-use Rattle.walk.proofs.drop_own.Reads as reads
-use Rattle.walk.proofs.drop_own.Lts as lts
-use Rattle.context.proofs.operation.drop_slots.Reads as drop-slots-reads
 
 mul-drop-slots : tie.Need-mul-drop-slots
 mul-drop-slots c =

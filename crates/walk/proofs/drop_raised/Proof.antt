@@ -5,10 +5,6 @@ use Rattle.context.specs.Layout.{kindOf}
 use Rattle.walk.proofs.Asked.{starts, tallied}
 use Rattle.walk.proofs.drop_raised.Statement.{statement}
 use Rattle.walk.proofs.drop_raised.Tie as tie
-use Rattle.walk.proofs.drop_raised.Reads as reads
-use Rattle.walk.proofs.drop_raised.Lts as lts
-use Rattle.context.proofs.live_count.Reads as live-count-reads
-use Rattle.walk.proofs.drop_inside.Reads as drop-inside-reads
 
 live-count-requires : tie.Need-live-count-requires
 live-count-requires c κs = c .before .before .pre .store .well

@@ -4,9 +4,6 @@ use Rattle.walk.proofs.KindCodes.{third}
 use Rattle.walk.proofs.EndValues.{can-results, can-arguments, own-results, own-arguments, own-nothing}
 use Rattle.walk.proofs.end_own.Statement.{statement}
 use Rattle.walk.proofs.end_own.Tie as tie
-use Rattle.walk.proofs.end_own.Reads as reads
-use Rattle.walk.proofs.end_own.Lts as lts
-use Rattle.walk.proofs.end_values.Reads as end-values-reads
 
 end-values-requires : tie.Need-end-values-requires
 end-values-requires c κs =

@@ -4,11 +4,6 @@ use Rattle.walk.proofs.KindCodes.{third}
 use Rattle.walk.proofs.EraseWalk.{can-end-as, ended-as}
 use Rattle.walk.proofs.end_thing.Statement.{statement}
 use Rattle.walk.proofs.end_thing.Tie as tie
-use Rattle.walk.proofs.end_thing.Reads as reads
-use Rattle.walk.proofs.end_thing.Lts as lts
-use Rattle.context.proofs.basic_block.end_block.Reads as end-block-reads
-use Rattle.context.proofs.operation.end_operation.Reads as end-operation-reads
-use Rattle.context.proofs.region.end_region.Reads as end-region-reads
 
 end-operation-requires : tie.Need-end-operation-requires
 end-operation-requires c κs =

@@ -6,10 +6,6 @@ use Rattle.context.proofs.Cursor.{row}
 use Rattle.walk.proofs.EndValues.{Ending, ending, value-unused, value-turn, values-less, values-ended}
 use Rattle.walk.proofs.end_values.Statement.{statement}
 use Rattle.walk.proofs.end_values.Tie as tie
-use Rattle.walk.proofs.end_values.Reads as reads
-use Rattle.walk.proofs.end_values.Lts as lts
-use Rattle.context.proofs.value.end_value.Reads as end-value-reads
-use Rattle.context.proofs.first_of.Reads as first-of-reads
 
 abbrev Inv-loop : tie.InvT-loop
 Inv-loop m₀ l c k₀ m k =

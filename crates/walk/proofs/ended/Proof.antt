@@ -1,23 +1,11 @@
 use borrow.Author.Needs.{needs}
-use mathlib.Core.Path.{_≡_, refl, sym, ap, _∙_}
-use mathlib.Core.Bool.{Bool, true, false, not, _&&_, _||_}
-use Prim.Native.Nat.{ℕ, _+_, _-_, _*_, _%_, _<_}
+use mathlib.Core.Path.{sym, _∙_}
 use native.Mathlib.Omega.{arith}
-use Rattle.places.specs.Store.{op, blk, reg, usg, Live, up, slots, useSets, regs, opsIn, blocksIn}
-use Rattle.context.specs.Memory.{stateOf}
+use Rattle.places.specs.Store.{reg}
 use Rattle.context.proofs.Places.{place<}
-use mathlib.Core.Option.{Option, some}
-use Rattle.places.specs.Store.{Thing}
-use Rattle.rules.specs.Table.{some-and}
-use Rattle.places.specs.Verdict.{lackable, endsWell}
-use Rattle.walk.proofs.JudgeLaws.{region-there, region-pos, region-in, region-in-live, or-first, or-second}
+use Rattle.walk.proofs.JudgeLaws.{region-pos, region-in-live, or-first, or-second}
 use Rattle.walk.proofs.ended.Statement.{statement}
 use Rattle.walk.proofs.ended.Tie as tie
-use Rattle.walk.proofs.ended.Reads as reads
-use Rattle.walk.proofs.ended.Lts as lts
-use Rattle.context.proofs.home_of.Reads as home-of-reads
-use Rattle.walk.proofs.ends_well.Reads as ends-well-reads
-use Rattle.walk.proofs.may_lack.Reads as may-lack-reads
 
 home-of-requires : tie.Need-home-of-requires
 home-of-requires c κs =

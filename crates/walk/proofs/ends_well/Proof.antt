@@ -1,18 +1,10 @@
 use borrow.Author.Needs.{needs}
-use mathlib.Core.Path.{_≡_, refl, sym, ap, _∙_}
-use mathlib.Core.Bool.{Bool, true, false, not, _&&_, _||_}
-use Prim.Native.Nat.{ℕ, _+_, _-_, _*_, _%_, _<_}
-use native.Mathlib.Omega.{arith}
-use Rattle.places.specs.Store.{op, blk, reg, usg, Live, up, slots, useSets, regs, opsIn, blocksIn}
-use Rattle.context.specs.Memory.{stateOf}
+use mathlib.Core.Path.{_∙_}
+use Rattle.places.specs.Store.{blk}
 use Rattle.context.proofs.Places.{place<}
 use Rattle.walk.proofs.JudgeLaws.{last-some, ends-none, ends-some}
 use Rattle.walk.proofs.ends_well.Statement.{statement}
 use Rattle.walk.proofs.ends_well.Tie as tie
-use Rattle.walk.proofs.ends_well.Reads as reads
-use Rattle.walk.proofs.ends_well.Lts as lts
-use Rattle.context.proofs.last_of.Reads as last-of-reads
-use Rattle.walk.proofs.is_terminator.Reads as is-terminator-reads
 
 last-of-requires : tie.Need-last-of-requires
 last-of-requires c κs =

@@ -3,11 +3,6 @@ use Rattle.walk.proofs.Asked.{may-tally}
 use Rattle.walk.proofs.EraseEdit.{refused-answer, can-erase, done-answer}
 use Rattle.walk.proofs.erase_found.Statement.{statement}
 use Rattle.walk.proofs.erase_found.Tie as tie
-use Rattle.walk.proofs.erase_found.Reads as reads
-use Rattle.walk.proofs.erase_found.Lts as lts
-use Rattle.walk.proofs.erase_refusal.Reads as erase-refusal-reads
-use Rattle.walk.proofs.drop_tallied.Reads as drop-tallied-reads
-use Rattle.walk.proofs.erase_inside.Reads as erase-inside-reads
 
 erase-refusal-requires : tie.Need-erase-refusal-requires
 erase-refusal-requires c κs =

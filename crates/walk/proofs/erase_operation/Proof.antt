@@ -9,10 +9,6 @@ use Rattle.walk.proofs.Asked.{dead-at, live-at, no-operation}
 use Rattle.walk.proofs.EraseEdit.{did-erase-op}
 use Rattle.walk.proofs.erase_operation.Statement.{statement}
 use Rattle.walk.proofs.erase_operation.Tie as tie
-use Rattle.walk.proofs.erase_operation.Reads as reads
-use Rattle.walk.proofs.erase_operation.Lts as lts
-use Rattle.context.proofs.find.Reads as find-reads
-use Rattle.walk.proofs.erase_found.Reads as erase-found-reads
 
 find-requires : tie.Need-find-requires
 find-requires c κs =

@@ -3,11 +3,6 @@ use Rattle.walk.proofs.Marks.{tested-is}
 use borrow.Author.Needs.{needs}
 use Rattle.walk.proofs.erase_refusal.Statement.{statement}
 use Rattle.walk.proofs.erase_refusal.Tie as tie
-use Rattle.walk.proofs.erase_refusal.Reads as reads
-use Rattle.walk.proofs.erase_refusal.Lts as lts
-use Rattle.walk.proofs.depth.Reads as depth-reads
-use Rattle.walk.proofs.mark_within.Reads as mark-within-reads
-use Rattle.walk.proofs.test_marked.Reads as test-marked-reads
 
 depth-requires : tie.Need-depth-requires
 depth-requires c κs = search needs

@@ -10,12 +10,6 @@ use Rattle.walk.proofs.Asked.{dead-at, live-at, no-operation}
 use Rattle.walk.proofs.EraseEdit.{no-index, region-live, did-erase-region}
 use Rattle.walk.proofs.erase_region.Statement.{statement}
 use Rattle.walk.proofs.erase_region.Tie as tie
-use Rattle.walk.proofs.erase_region.Reads as reads
-use Rattle.walk.proofs.erase_region.Lts as lts
-use Rattle.context.proofs.find.Reads as find-reads
-use Rattle.context.proofs.row_length.Reads as row-length-reads
-use Rattle.context.proofs.nth_of.Reads as nth-of-reads
-use Rattle.walk.proofs.erase_found.Reads as erase-found-reads
 
 find-requires : tie.Need-find-requires
 find-requires c κs =

@@ -2,8 +2,6 @@ use borrow.Author.Needs.{needs}
 use Rattle.walk.proofs.EraseWalk.{inner-next}
 use Rattle.walk.proofs.inner_kind.Statement.{statement}
 use Rattle.walk.proofs.inner_kind.Tie as tie
-use Rattle.walk.proofs.inner_kind.Reads as reads
-use Rattle.walk.proofs.inner_kind.Lts as lts
 
 returns : tie.Need-returns
 returns c = search needs

@@ -2,8 +2,6 @@ use borrow.Author.Needs.{needs}
 use Rattle.walk.proofs.Search.{clean-accepted, clean-refused}
 use Rattle.walk.proofs.is_clean.Statement.{statement}
 use Rattle.walk.proofs.is_clean.Tie as tie
-use Rattle.walk.proofs.is_clean.Reads as reads
-use Rattle.walk.proofs.is_clean.Lts as lts
 
 enum-known-v : tie.Need-enum-known-v
 enum-known-v c = search needs

@@ -8,9 +8,6 @@ use Rattle.walk.proofs.Strays.{stray-is}
 use borrow.Author.Needs.{needs}
 use Rattle.walk.proofs.is_stray.Statement.{statement}
 use Rattle.walk.proofs.is_stray.Tie as tie
-use Rattle.walk.proofs.is_stray.Reads as reads
-use Rattle.walk.proofs.is_stray.Lts as lts
-use Rattle.walk.proofs.user_of.Reads as user-of-reads
 
 user-of-requires : tie.Need-user-of-requires
 user-of-requires c κs = search needs

@@ -1,23 +1,12 @@
 use borrow.Author.Needs.{needs}
-use mathlib.Core.Path.{_≡_, refl, sym, ap, _∙_}
-use mathlib.Core.Bool.{Bool, true, false, not, _&&_, _||_}
-use Prim.Native.Nat.{ℕ, _+_, _-_, _*_, _%_, _<_}
-use native.Mathlib.Omega.{arith}
-use Rattle.places.specs.Store.{op, blk, reg, usg, Live, up, slots, useSets, regs, opsIn, blocksIn}
-use Rattle.context.specs.Memory.{stateOf}
+use mathlib.Core.Path.{sym, _∙_}
+use Rattle.places.specs.Store.{blk}
 use Rattle.context.proofs.Places.{place<}
 use Rattle.edit.specs.Answer.{numbers-of}
 use Rattle.walk.proofs.JudgeLaws.{block-in-live, alone-1, alone-2, alone-18, alone-4, alone-0}
 use Rattle.walk.proofs.Search.{nay, yea, nothing}
 use Rattle.walk.proofs.judge_block.Statement.{statement}
 use Rattle.walk.proofs.judge_block.Tie as tie
-use Rattle.walk.proofs.judge_block.Reads as reads
-use Rattle.walk.proofs.judge_block.Lts as lts
-use Rattle.context.proofs.home_of.Reads as home-of-reads
-use Rattle.context.proofs.number_of.Reads as number-of-reads
-use Rattle.walk.proofs.ended.Reads as ended-reads
-use Rattle.walk.proofs.lost_pred.Reads as lost-pred-reads
-use Rattle.walk.proofs.stray_user.Reads as stray-user-reads
 
 number-of-requires : tie.Need-number-of-requires
 number-of-requires c κs = search needs

@@ -1,21 +1,12 @@
 use borrow.Author.Needs.{needs}
-use mathlib.Core.Path.{_≡_, refl, sym, ap, _∙_}
-use mathlib.Core.Bool.{Bool, true, false, not, _&&_, _||_}
-use Prim.Native.Nat.{ℕ, _+_, _-_, _*_, _%_, _<_}
-use native.Mathlib.Omega.{arith}
-use Rattle.places.specs.Store.{op, blk, reg, usg, Live, up, slots, useSets, regs, opsIn, blocksIn}
-use Rattle.context.specs.Memory.{stateOf}
+use mathlib.Core.Path.{sym, _∙_}
+use Rattle.places.specs.Store.{op}
 use Rattle.context.proofs.Places.{place<}
 use Rattle.walk.proofs.JudgeLaws.{no-end, good-end, early-end}
 use Rattle.walk.proofs.Search.{nay, yea, nothing}
-use Rattle.edit.specs.Answer.{numbers-of, found}
+use Rattle.edit.specs.Answer.{numbers-of}
 use Rattle.walk.proofs.judge_end.Statement.{statement}
 use Rattle.walk.proofs.judge_end.Tie as tie
-use Rattle.walk.proofs.judge_end.Reads as reads
-use Rattle.walk.proofs.judge_end.Lts as lts
-use Rattle.context.proofs.next_of.Reads as next-of-reads
-use Rattle.context.proofs.number_of.Reads as number-of-reads
-use Rattle.walk.proofs.is_terminator.Reads as is-terminator-reads
 
 is-terminator-requires : tie.Need-is-terminator-requires
 is-terminator-requires c κs = search needs

@@ -2,8 +2,6 @@ use Rattle.walk.proofs.Marks.{given-op, given-other}
 use borrow.Author.Needs.{needs}
 use Rattle.walk.proofs.mark_own.Statement.{statement}
 use Rattle.walk.proofs.mark_own.Tie as tie
-use Rattle.walk.proofs.mark_own.Reads as reads
-use Rattle.walk.proofs.mark_own.Lts as lts
 
 mul-s : tie.Need-mul-s
 mul-s c =

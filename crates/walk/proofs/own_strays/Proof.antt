@@ -5,10 +5,6 @@ use Rattle.walk.proofs.KindCodes.{third, place-op, place-block}
 use Rattle.walk.proofs.Strays.{of-op, of-block, of-arguments, of-region}
 use Rattle.walk.proofs.own_strays.Statement.{statement}
 use Rattle.walk.proofs.own_strays.Tie as tie
-use Rattle.walk.proofs.own_strays.Reads as reads
-use Rattle.walk.proofs.own_strays.Lts as lts
-use Rattle.walk.proofs.set_strays.Reads as set-strays-reads
-use Rattle.walk.proofs.values_stray.Reads as values-stray-reads
 
 values-stray-requires : tie.Need-values-stray-requires
 values-stray-requires c κs =

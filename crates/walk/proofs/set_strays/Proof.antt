@@ -1,19 +1,14 @@
 use mathlib.Core.Bool.{true, false}
 use borrow.Author.Needs.{needs}
-use mathlib.Core.Path.{_≡_, sym, _∙_}
+use mathlib.Core.Path.{sym, _∙_}
 use Rattle.places.specs.Store.{useSets}
-use Rattle.context.specs.Memory.{con, stateOf}
+use Rattle.context.specs.Memory.{stateOf}
 use Rattle.context.proofs.Cursor.{ahead, here, next-less}
 use Rattle.walk.specs.Tests.{stray, marksIn}
 use Rattle.walk.proofs.Search.{Searching, searching, hit, miss, over}
 use Rattle.walk.proofs.Strays.{set-is}
 use Rattle.walk.proofs.set_strays.Statement.{statement}
 use Rattle.walk.proofs.set_strays.Tie as tie
-use Rattle.walk.proofs.set_strays.Reads as reads
-use Rattle.walk.proofs.set_strays.Lts as lts
-use Rattle.context.proofs.first_of.Reads as first-of-reads
-use Rattle.context.proofs.next_of.Reads as next-of-reads
-use Rattle.walk.proofs.is_stray.Reads as is-stray-reads
 
 abbrev Inv-loop : tie.InvT-loop
 Inv-loop m l s d k₀ k = Searching l useSets d m k (stray (stateOf l m) (marksIn s))

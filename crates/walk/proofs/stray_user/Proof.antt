@@ -1,21 +1,16 @@
 use borrow.Author.Needs.{needs}
-use mathlib.Core.Path.{_≡_, refl, sym, ap, _∙_}
-use mathlib.Core.Bool.{Bool, true, false, not, _&&_, _||_}
-use Prim.Native.Nat.{ℕ, _+_, _-_, _*_, _%_, _<_}
+use mathlib.Core.Path.{sym, ap, _∙_}
+use mathlib.Core.Bool.{not}
+use Prim.Native.Nat.{_+_}
 use native.Mathlib.Omega.{arith}
-use Rattle.places.specs.Store.{op, blk, reg, usg, Live, up, slots, useSets, regs, opsIn, blocksIn}
+use Rattle.places.specs.Store.{blk, useSets}
 use Rattle.context.specs.Memory.{stateOf}
 use Rattle.context.proofs.Places.{place<}
 use Rattle.context.proofs.Cursor.{ahead, here, next-less}
-use Rattle.walk.proofs.Search.{nay, yea, Searching, searching, hit, miss, over, names?, names-is, stray?, stray-is}
+use Rattle.walk.proofs.Search.{Searching, searching, hit, miss, over, stray?, stray-is}
 use Rattle.walk.proofs.JudgeLaws.{set-row}
 use Rattle.walk.proofs.stray_user.Statement.{statement}
 use Rattle.walk.proofs.stray_user.Tie as tie
-use Rattle.walk.proofs.stray_user.Reads as reads
-use Rattle.walk.proofs.stray_user.Lts as lts
-use Rattle.context.proofs.first_of.Reads as first-of-reads
-use Rattle.context.proofs.next_of.Reads as next-of-reads
-use Rattle.walk.proofs.user_placed.Reads as user-placed-reads
 
 abbrev Inv-loop : tie.InvT-loop
 Inv-loop m l b k₀ k =

@@ -6,9 +6,6 @@ use Rattle.walk.proofs.Strays.{code-13, code-14, code-0}
 use borrow.Author.Needs.{needs}
 use Rattle.walk.proofs.test_marked.Statement.{statement}
 use Rattle.walk.proofs.test_marked.Tie as tie
-use Rattle.walk.proofs.test_marked.Reads as reads
-use Rattle.walk.proofs.test_marked.Lts as lts
-use Rattle.walk.proofs.strays_within.Reads as strays-within-reads
 
 strays-within-requires : tie.Need-strays-within-requires
 strays-within-requires c κs = search needs

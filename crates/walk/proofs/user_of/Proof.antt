@@ -1,16 +1,9 @@
-use mathlib.Core.Path.{_≡_, refl, sym, ap, _∙_}
-use mathlib.Core.Bool.{Bool, true, false, not, _&&_, _||_}
-use Prim.Native.Nat.{ℕ, _+_, _-_, _*_, _%_, _<_}
 use native.Mathlib.Omega.{arith}
-use Rattle.places.specs.Store.{op, blk, reg, usg, Live, up, slots, useSets, regs, opsIn, blocksIn}
-use Rattle.context.specs.Memory.{stateOf}
+use Rattle.places.specs.Store.{usg}
 use Rattle.context.proofs.Places.{place<}
 use Rattle.walk.proofs.JudgeLaws.{slot-pos, user-is}
 use Rattle.walk.proofs.user_of.Statement.{statement}
 use Rattle.walk.proofs.user_of.Tie as tie
-use Rattle.walk.proofs.user_of.Reads as reads
-use Rattle.walk.proofs.user_of.Lts as lts
-use Rattle.context.proofs.home_of.Reads as home-of-reads
 
 home-of-requires : tie.Need-home-of-requires
 home-of-requires c κs =

@@ -1,6 +1,5 @@
 use borrow.Author.Needs.{needs}
-use mathlib.Core.Path.{_≡_, sym, _∙_}
-use mathlib.Core.Bool.{true, false}
+use mathlib.Core.Path.{sym, _∙_}
 use native.Mathlib.Omega.{arith}
 use Prim.Native.Nat.{_-_}
 use Rattle.places.specs.Store.{vals}
@@ -11,11 +10,6 @@ use Rattle.walk.proofs.Search.{Searching, searching, hit, miss, over}
 use Rattle.walk.proofs.Strays.{value-set}
 use Rattle.walk.proofs.values_stray.Statement.{statement}
 use Rattle.walk.proofs.values_stray.Tie as tie
-use Rattle.walk.proofs.values_stray.Reads as reads
-use Rattle.walk.proofs.values_stray.Lts as lts
-use Rattle.context.proofs.first_of.Reads as first-of-reads
-use Rattle.context.proofs.next_of.Reads as next-of-reads
-use Rattle.walk.proofs.set_strays.Reads as set-strays-reads
 
 abbrev Inv-loop : tie.InvT-loop
 Inv-loop m l s c k₀ k = Searching l vals c m k (strayValue (stateOf l m) (marksIn s))

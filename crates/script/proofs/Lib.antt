@@ -4,6 +4,7 @@ pub mod Beside
 pub mod Neighbours
 pub mod Alike
 pub mod Demand3
+pub mod Determined
 pub mod Turns
 pub mod Written
 pub mod Running

@@ -110,7 +110,7 @@ module _ (l : Layout) (bytes : List ℕ) (at count : ℕ) (m s out : List ℕ) w
         kind = kind-of (record-at bytes at end);
         fields = fields-of (record-at bytes at end);
         cut-off = N .same ∙ ap (cut-of bytes at) e;
-        words = record { state = O .state; places = O .places };
+        words = record { sound = O .sound; state = O .state; places = O .places };
         room = h;
         lies = N .lies end e;
         sound = O .sound;

@@ -70,6 +70,7 @@ Over (whole kind fs rest) (suc room) = ⊥
 
 -- what was read of a record took the words from m to m′
 pub record Turned (l : Layout) (q : Read) (m m′ : List ℕ) : Type 0 where
+  pub sound : SoundStore l m′
   pub state : abs l m′ ≡ obey (abs l m) q .1
   pub places : Settles (stateOf l m) (stateOf l m′)
 

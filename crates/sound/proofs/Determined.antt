@@ -30,7 +30,7 @@ rest-is (n ∷ ns) m = rest-is ns (drop n m) ∙ drop-drop (start ns (length ns)
 whole : (n : ℕ) (m m′ : List ℕ) → take n m ≡ take n m′ → drop n m ≡ drop n m′ → m ≡ m′
 whole n m m′ a b = sym (take-append-drop n m) ∙ ap₂ {C = List ℕ} (λ s t. s ++ t) a b ∙ take-append-drop n m′
 
-blank : (l : Layout) (m : List ℕ) (k : Kind) → Blank (stateOf l m .tab k)
+pub blank : (l : Layout) (m : List ℕ) (k : Kind) → Blank (stateOf l m .tab k)
 unfolding store partsOf
 blank l m k = lookup-none (partsOf l (split (sizes l) m) .books k .live)
 

@@ -8,7 +8,7 @@ use native.Mathlib.Omega.{arith}
 use lib.ListN.{length, getD, take, drop}
 use Rattle.seqs.specs.Split.{split}
 use Rattle.seqs.specs.Seqs.{lastOf}
-use Rattle.linked_list.specs.Links.{at, place, home, lists, Linked, Free, Held, Sizes, rowOf, nextIn, prevIn, lastIn}
+use Rattle.linked_list.specs.Links.{at, place, home, lists, Linked, Free, Held, Sizes, rowOf, nextIn, lastIn}
 use Rattle.linked_list.proofs.Laws.{at-inj, at-lt}
 use Rattle.linked_list.proofs.View.{Seat, seat}
 use Rattle.linked_list.proofs.Getters.{cells, at-getD}
@@ -19,7 +19,7 @@ use Rattle.context.specs.declared.Layout.{Layout}
 use Rattle.context.specs.declared.Span.{Span}
 use Rattle.context.specs.Layout.{ncOf, nnOf, sizes, famPart, SpanOf}
 use Rattle.context.specs.Memory.{part, decode, partsOf, con, stateOf, headCode, Well}
-use Rattle.context.specs.Reading.{listOf, lastCode, NextIs, PrevIs, LastIs, NthIs}
+use Rattle.context.specs.Reading.{listOf, lastCode, NextIs, LastIs, NthIs}
 use Rattle.context.proofs.Families.{node<, con-back, list-at, own-is, stands, free}
 use Rattle.context.proofs.Thin.{length-map, seen, sized, linked}
 
@@ -40,14 +40,6 @@ at-next : (a b : List Thing) (x : Thing) → at (seconds (a ++ x ∷ b)) (suc (l
 at-next [] [] x = refl
 at-next [] (y ∷ b) x = refl
 at-next (y ∷ a) b x = at-next a b x
-
-at-last : (y : Thing) (a b : List Thing) → at (seconds (y ∷ (a ++ b))) (length a) ≡ suc (lastOf y a .1)
-at-last y [] b = refl
-at-last y (z ∷ a) b = at-last z a b
-
-at-prev : (a b : List Thing) (x : Thing) → place (seconds (a ++ x ∷ b)) (length a) ≡ lastCode a
-at-prev [] b x = refl
-at-prev (y ∷ a) b x = at-last y a (x ∷ b)
 
 last-at : (y : Thing) (a : List Thing) → at (seconds (y ∷ a)) (length a) ≡ suc (lastOf y a .1)
 last-at y [] = refl
@@ -129,9 +121,6 @@ module _ {l : Layout} {m : List ℕ} (W : Well l m) (f : Fam) where
       pub next-code : at row (suc (seated .3 .index)) ≡ headCode b
       next-code = ap (λ (i : ℕ). at row (suc i)) index-is ∙ ap (λ (t : List ℕ). at t (suc (length a))) places ∙ at-next a b (nodeIn f, n)
 
-      pub prev-code : place row (seated .3 .index) ≡ lastCode a
-      prev-code = ap (place row) index-is ∙ ap (λ (t : List ℕ). place t (length a)) places ∙ at-prev a b (nodeIn f, n)
-
 -- ---- what the readers say
 
 module _ (l : Layout) (m : List ℕ) (f : Fam) (r : Span) (W : Well l m) (T : SpanOf l f r) where
@@ -152,14 +141,6 @@ module _ (l : Layout) (m : List ℕ) (f : Fam) (r : Span) (W : Well l m) (T : Sp
         record {
           none = λ o. e ∙ lone (W .families f) n h (free l m f n o) .next0;
           after = λ c o a b w. e ∙ seated W f n c o .3 .next-is ∙ next-code W f n c o a b w;
-        }
-
-    pub prev-is : (x y : ℕ) → x ≡ y → y ≡ prevIn n (rowOf n (lists (r .nc) (r .nn) given)) → PrevIs l f n m x
-    prev-is x y h₀ g =
-        let e : x ≡ getD (part l m (famPart f)) (2 * ncOf l f + nnOf l f + n) 0 = h₀ ∙ rw (seen l m f r W T, T .containers, T .nodes) at g ∙ sym (cells (W .families f) n h .prev) in
-        record {
-          none = λ o. e ∙ lone (W .families f) n h (free l m f n o) .prev0;
-          before = λ c o a b w. e ∙ seated W f n c o .3 .prev-is ∙ prev-code W f n c o a b w;
         }
 
   pub last-is : (k x : ℕ) → x ≡ lastIn (getD (lists (r .nc) (r .nn) given) k []) → LastIs l f k m x

@@ -27,11 +27,6 @@ pub record NextIs (l : Layout) (f : Fam) (n : ℕ) (m : List ℕ) (r : ℕ) : Ty
   pub none : stateOf l m .own (nodeIn f, n) f ≡ none → r ≡ 0
   pub after : (c : Con) → stateOf l m .own (nodeIn f, n) f ≡ some c → (a b : List Thing) → listOf l m c ≡ a ++ (nodeIn f, n) ∷ b → r ≡ headCode b
 
--- r stands for the node before n in its list: 0 where none precedes, and where n is in no list
-pub record PrevIs (l : Layout) (f : Fam) (n : ℕ) (m : List ℕ) (r : ℕ) : Type 0 where
-  pub none : stateOf l m .own (nodeIn f, n) f ≡ none → r ≡ 0
-  pub before : (c : Con) → stateOf l m .own (nodeIn f, n) f ≡ some c → (a b : List Thing) → listOf l m c ≡ a ++ (nodeIn f, n) ∷ b → r ≡ lastCode a
-
 -- r stands for the last of the list k of the family f
 pub record LastIs (l : Layout) (f : Fam) (k : ℕ) (m : List ℕ) (r : ℕ) : Type 0 where
   pub is : r ≡ lastCode (listOf l m (con l f k))

@@ -13,7 +13,7 @@ ghost use lib.ListN.{length, getD, set};
 ghost use Rattle.places.specs.Store.{Live, op, val};
 ghost use Rattle.context.specs.Layout.{capOf, ncOf, nnOf, total, famOf, kindOf, Caps, ArenaSize, HalfSize, FamiliesAt, SpanOf, RoomOf, TagsAt, TotalIs, HasTag};
 ghost use Rattle.context.specs.Memory.{con, stateOf, Well, RoomFor, Borne, Finished, Finds, HomeIs, LengthIs, RoomIs, FirstIs};
-ghost use Rattle.context.specs.Reading.{listOf, NextIs, PrevIs, LastIs, NthIs, NumberIs, LiveIs, NextNumberIs, NthLiveIs};
+ghost use Rattle.context.specs.Reading.{listOf, NextIs, LastIs, NthIs, NumberIs, LiveIs, NextNumberIs, NthLiveIs};
 ghost use Rattle.context.specs.Steps.{Zeroed, Started};
 ghost use Rattle.context.specs.Start.{StartIs, WordsNeeded};
 ghost use Rattle.context.specs.Checked.{Headed, Fits, TableOk, FamilyOk, TablesOk, FamiliesOk, SpareAt, SpareIn, SpareOk};
@@ -222,20 +222,6 @@ pub fn next_of(m: &[u32], l: Layout, f: usize, n: usize) -> usize
     let nn = s.nn;
     let e = a + 2 * nc + 3 * nn;
     wide(linked_list::get_next(&m[a..e], nc, nn, n))
-}
-
-// What stands for the node before `n` in its list of the family `f`: its place + 1, and 0 for none.
-pub fn prev_of(m: &[u32], l: Layout, f: usize, n: usize) -> usize
-    requires { ⌜ Well l (now m) ⌝ }
-    requires { ⌜ n < nnOf l (famOf f) ⌝ }
-    ensures { λ r. ⌜ PrevIs l (famOf f) n (now (m .entry)) r ⌝ }
-{
-    let s = family_span(l, f);
-    let a = s.at;
-    let nc = s.nc;
-    let nn = s.nn;
-    let e = a + 2 * nc + 3 * nn;
-    wide(linked_list::get_prev(&m[a..e], nc, nn, n))
 }
 
 // What stands for the last of the list `k` of the family `f`: its place + 1, and 0 for none.

@@ -25,3 +25,5 @@ pub mod Gaps
 pub mod Moving
 pub mod Performing
 pub mod Cursor
+pub mod Search
+pub mod Users

@@ -1,14 +1,16 @@
 -- What the readers of lists and tables say of the store by places.
 -- Assumes nothing: these are definitions.
 use mathlib.Core.Path.{_≡_}
+use mathlib.Core.Bool.{Bool}
 use mathlib.Core.List.{List, [], _∷_, _++_}
 use mathlib.Core.Option.{none, some}
 use Prim.Native.Nat.{ℕ, suc, _+_, _≤_, _<_}
 use lib.ListN.{length, getD}
 use Rattle.seqs.specs.Seqs.{lastOf}
-use Rattle.places.specs.Store.{Kind, Fam, Thing, Con, Live, enter}
+use Rattle.places.specs.Store.{Kind, op, usg, Fam, slots, Thing, Con, State, Live, outer, up, enter}
 use Rattle.places.specs.Parts.{nodeIn}
 use Rattle.places.specs.View.{num}
+use Rattle.rules.specs.Table.{some-and, is-some}
 use Rattle.context.specs.declared.Layout.{Layout}
 use Rattle.context.specs.Layout.{capOf, nnOf}
 use Rattle.context.specs.Memory.{part, con, stateOf, headCode, Well}
@@ -66,3 +68,11 @@ pub record NthLiveIs (l : Layout) (k : Kind) (i : ℕ) (m : List ℕ) (r : ℕ) 
 -- r is the flags or the type of the thing a
 pub record TagIs (l : Layout) (a : Thing) (m : List ℕ) (r : ℕ) : Type 0 where
   pub is : r ≡ stateOf l m .tag a
+
+-- r is the operation at which the use at the place u stands
+pub record UserIs (l : Layout) (u : ℕ) (m : List ℕ) (r : ℕ) : Type 0 where
+  pub is : outer (stateOf l m .own (usg, u) slots) ≡ some (op, r)
+
+-- is that operation in a block?
+abbrev pub userPlaced : State → Thing → Bool
+userPlaced P u = some-and (outer (P .own u slots)) (λ o. is-some (up P o))

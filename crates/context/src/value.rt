@@ -3,6 +3,7 @@ use super::Layout;
 use super::bear;
 use super::finish;
 use super::get_cell;
+use super::home_of;
 use super::lists::enter_at;
 use super::lists::enter_back;
 use super::lists::leave;
@@ -12,7 +13,7 @@ ghost use Prim.Native.Nat.{_<_};
 ghost use Rattle.places.specs.Store.{Live, val, usg, vals, useSets, slots};
 ghost use Rattle.context.specs.Layout.{ncOf};
 ghost use Rattle.context.specs.Memory.{con, stateOf, Well, SoundStore, MayTag, Tagged};
-ghost use Rattle.context.specs.Reading.{TagIs};
+ghost use Rattle.context.specs.Reading.{TagIs, UserIs};
 ghost use Rattle.context.specs.Steps.{CanMove, Moved, EndedUse, CanBear, BorneUse, Unused, EndedValue, CanBearValue, BorneValue};
 
 // The value at the place `p` gets the type `v`; at a free place it is 0.
@@ -95,4 +96,14 @@ pub fn end_use(m: &mut [u32], l: Layout, u: usize)
     leave(m, l, 0, u);
     leave(m, l, 1, u);
     finish(m, l, 4, u);
+}
+
+// The operation at which the use at the place `u` stands.
+pub fn user_of(m: &[u32], l: Layout, u: usize) -> usize
+    requires { ⌜ SoundStore l (now m) ⌝ }
+    requires { ⌜ Live (stateOf l (now m)) (usg, u) ⌝ }
+    ensures { λ r. ⌜ UserIs l u (now (m .entry)) r ⌝ }
+{
+    let h = home_of(m, l, 0, u);
+    (h - 1) / 2
 }

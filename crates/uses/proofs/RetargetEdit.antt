@@ -1,9 +1,9 @@
 -- Retarget some, each way out. Assumes nothing.
-use mathlib.Core.Path.{_≡_, refl, sym, ap, ap₂, _∙_}
+use mathlib.Core.Path.{_≡_, refl, sym, ap, ap₂, _∙_, subst}
 use mathlib.Core.Bool.{Bool, true, false, cond, _&&_}
 use mathlib.Core.List.{List, [], _∷_}
 use native.Mathlib.Omega.{arith}
-use Prim.Native.Nat.{ℕ}
+use Prim.Native.Nat.{ℕ, _+_, _-_, _≤_}
 use lib.ListN.{getD, drop}
 use borrow.Author.Tests.{eqb-true}
 use Rattle.edit.specs.Record.{successor, Definition, of-value, of-block, Edit, retarget-some}
@@ -11,13 +11,14 @@ use Rattle.edit.specs.Taken.{edit-of}
 use Rattle.edit.proofs.ByKind.{kinds}
 use Rattle.edit.specs.Answer.{clean, found}
 use Rattle.edit.specs.declared.Answer.the-variants.{Accepted, Refused}
-use Rattle.rules.specs.Table.{Table, any, change-all}
+use Rattle.rules.specs.Table.{Table, change-all}
 use Rattle.rules.specs.History.{same-definition}
 use Rattle.rules.specs.Refusal.{check, from-state, refusal-of}
 use Rattle.rules.specs.Verdict.{sight, stray-user}
 use Rattle.rules.specs.Step.{answer}
-use Rattle.places.specs.Store.{useSets, Con, State}
+use Rattle.places.specs.Store.{blk, useSets, Con, State, Live}
 use Rattle.places.specs.View.{num}
+use Rattle.places.specs.Parts.{rowsOf}
 use Rattle.places.specs.Hist.{meaning}
 use Rattle.places.specs.Verdict.{strayUser}
 use Rattle.places.proofs.RuleAccept.{endedOf}
@@ -31,7 +32,8 @@ use Rattle.context.specs.declared.Layout.{Layout}
 use Rattle.context.specs.Memory.{con, stateOf, SoundStore}
 use Rattle.context.specs.Performed.{Performed}
 use Rattle.uses.specs.Look.{DefAt}
-use Rattle.uses.specs.Retarget.{astray, StrayIs, RetargetedAll}
+use Rattle.uses.specs.Retarget.{RetargetedAll}
+use Rattle.context.proofs.Families.{con-back}
 use Rattle.context.proofs.Performing.{refuses, accepts}
 use Rattle.uses.proofs.Looking.{names-retarget}
 
@@ -57,9 +59,25 @@ placed-self a p (e ∷ t) = ap₂ {C = List (ℕ × Definition)} (λ d r. (e .0,
     go true s false = refl
     go false s y = refl
 
+-- ---- the block of a set of uses
+
+module _ {l : Layout} {m : List ℕ} {n d : ℕ} (A : DefAt l m successor n d) where
+  number : l .values + A .place ≡ d
+  unfolding rowsOf
+  number = sym (ap (λ (c : Con). rowsOf (l .values) (l .ops) .row (c .0) (c .1 .1)) (A .row)) ∙ con-back (l .values) (l .ops) useSets d .number
+
+  pub set-past : l .values ≤ d
+  set-past = omega (arith, number)
+
+  set-place : A .place ≡ d - l .values
+  set-place = omega (arith, number)
+
+  pub set-live : Live (stateOf l m) (blk, d - l .values)
+  set-live = subst (λ (p : ℕ). Live (stateOf l m) (blk, p)) set-place (A .live)
+
 -- ---- the edit
 
-module _ {l : Layout} {m : List ℕ} (S : SoundStore l m) (a b d e : ℕ) (A : DefAt l m successor a d) (B : DefAt l m successor b e) (ps : List ℕ) (r : Bool) (R : StrayIs l d m r) where
+module _ {l : Layout} {m : List ℕ} (S : SoundStore l m) (a b d e : ℕ) (A : DefAt l m successor a d) (B : DefAt l m successor b e) (ps : List ℕ) (r : Bool) (R : r ≡ strayUser (stateOf l m) (blk, d - l .values)) where
   abbrev P : State
   P = stateOf l m
 
@@ -67,12 +85,12 @@ module _ {l : Layout} {m : List ℕ} (S : SoundStore l m) (a b d e : ℕ) (A : D
   E = retarget-some a b ps
 
   stray-is : stray-user (sight (meaning P)) a ≡ r
-  unfolding meaning strayUser
+  unfolding meaning
   stray-is =
       ap (stray-user (sight (meaning P))) (sym (A .number))
       ∙ stray-num (S .sound) (endedOf P) (A .place) (A .live)
-      ∙ ap (λ (c : Con). any (astray P) (P .list (c .1) (c .0))) (sym (A .row))
-      ∙ sym (R .is)
+      ∙ ap (λ (p : ℕ). strayUser P (blk, p)) (set-place A)
+      ∙ sym R
 
   code : refusal-of (meaning P) E ≡ check r 18 0
   unfolding from-state

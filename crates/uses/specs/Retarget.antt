@@ -1,19 +1,18 @@
 -- The uses of a block at operations of listed blocks move to another block, in one pass over them.
 -- Assumes nothing: these are definitions.
 use mathlib.Core.Path.{_≡_}
-use mathlib.Core.Bool.{Bool, true, false, not}
+use mathlib.Core.Bool.{Bool, true, false}
 use mathlib.Core.List.{List}
 use mathlib.Core.Option.{Option, none, some}
 use Prim.Native.Nat.{ℕ, zero, suc}
 use Rattle.edit.specs.Record.{successor, retarget-some}
-use Rattle.rules.specs.Table.{any, some-and, is-some, member}
+use Rattle.rules.specs.Table.{some-and, member}
 use Rattle.rules.specs.State.{accept}
-use Rattle.places.specs.Store.{Kind, blk, usg, slots, useSets, Thing, State, outer, up}
+use Rattle.places.specs.Store.{Kind, blk, usg, slots, Thing, State, outer, up}
 use Rattle.places.specs.View.{num}
 use Rattle.places.specs.Hist.{meaning}
 use Rattle.context.specs.declared.Layout.{Layout}
-use Rattle.context.specs.Memory.{part, con, stateOf, SoundStore}
-use Rattle.context.specs.Reading.{listOf}
+use Rattle.context.specs.Memory.{part, stateOf, SoundStore}
 use Rattle.context.specs.Steps.{Moved}
 use Rattle.uses.specs.Look.{DefAt}
 
@@ -27,14 +26,6 @@ pub record BlockOf (l : Layout) (u : ℕ) (m : List ℕ) (r : ℕ) : Type 0 wher
   pub user : Thing
   pub at : outer (stateOf l m .own (usg, u) slots) ≡ some user
   pub is : up (stateOf l m) user ≡ blockBy r
-
--- does the use stand at an operation that is in no block?
-abbrev pub astray : State → Thing → Bool
-astray P u = not (some-and (outer (P .own u slots)) (λ o. is-some (up P o)))
-
--- r: does one in the set d?
-pub record StrayIs (l : Layout) (d : ℕ) (m : List ℕ) (r : Bool) : Type 0 where
-  pub is : r ≡ any (astray (stateOf l m)) (listOf l m (con l useSets d))
 
 -- does the use stand at an operation of a block with a listed number?
 abbrev pub standsIn : State → List ℕ → Thing → Bool

@@ -18,7 +18,7 @@ ghost use Rattle.context.specs.Reading.{listOf};
 ghost use Rattle.context.specs.Steps.{CanMove};
 ghost use Rattle.context.specs.Performed.{Performed};
 ghost use Rattle.uses.specs.Some.{Between, PlacedOne, PlacedAll};
-ghost use Rattle.uses.specs.Retarget.{BlockOf, StrayIs, Chosen, RetargetedOne, RetargetedAll};
+ghost use Rattle.uses.specs.Retarget.{BlockOf, Chosen, RetargetedOne, RetargetedAll};
 ghost use Rattle.uses.specs.Look.{slotBy, SlotFound, DefFound, GrowIs, DefNumberIs, Taken};
 
 // The field from which on kinds 34 and 35 list numbers.
@@ -320,25 +320,8 @@ pub fn block_of(m: &[u32], l: Layout, u: usize) -> usize
     requires { ⌜ Live (stateOf l (now m)) (usg, u) ⌝ }
     ensures { λ r. ⌜ BlockOf l u (now (m .entry)) r ⌝ }
 {
-    let s = context::home_of(m, l, 0, u);
-    context::home_of(m, l, 4, (s - 1) / 2)
-}
-
-// Whether a use in the set `d` stands at an operation that is in no block.
-pub fn stray_user(m: &[u32], l: Layout, d: usize) -> bool
-    requires { ⌜ SoundStore l (now m) ⌝ }
-    requires { ⌜ d < ncOf l useSets ⌝ }
-    ensures { λ r. ⌜ StrayIs l d (now (m .entry)) r ⌝ }
-{
-    let mut k = context::first_of(m, l, 1, d);
-    while k != 0 {
-        let b = block_of(m, l, k - 1);
-        if b == 0 {
-            return true;
-        }
-        k = context::next_of(m, l, 1, k - 1);
-    }
-    false
+    let o = context::value::user_of(m, l, u);
+    context::home_of(m, l, 4, o)
 }
 
 // Whether the use stands at an operation of a block that is listed.
@@ -399,7 +382,7 @@ pub fn retarget_some(m: &mut [u32], l: Layout, rec: &[u8]) -> Answer
     let Found::At(e) = b else {
         return Answer::Refused(8);
     };
-    let s = stray_user(m, l, d);
+    let s = context::basic_block::stray_user(m, l, d - l.values);
     if s {
         return Answer::Refused(18);
     }

@@ -1,34 +1,32 @@
 -- Verdicts: the laws of the tests, and of the three functions' loops. Assumes nothing.
 use mathlib.Core.Path.{_≡_, refl, sym, ap, ap₂, _∙_, subst}
-use mathlib.Core.Logic.{_≢_, by-cases, if-pos, if-neg}
-use mathlib.Core.Bool.{Bool, true, false, not, _&&_, _||_}
+use mathlib.Core.Logic.{_≢_, by-cases}
+use mathlib.Core.Bool.{Bool, true, false, _&&_, _||_}
 use mathlib.Core.List.{List, [], _∷_, _++_}
 use mathlib.Core.Option.{Option, none, some}
-use native.Mathlib.Decide.{ℕ-discrete, decLt}
 use native.Mathlib.Omega.{arith}
-use Prim.Native.Nat.{ℕ, zero, suc, _+_, _-_, _*_, _/_, _%_, _<_, _≤_}
-use lib.Dec.{eqb}
+use Prim.Native.Nat.{ℕ, zero, suc, _+_, _-_, _*_, _<_, _≤_}
 use Rattle.seqs.specs.Seqs.{count, In, lastOf}
-use Rattle.places.specs.Store.{op, blk, reg, val, usg, operands, successors, valueUses, blockUses, regions, ops, Fam, slots, useSets, regs, opsIn, blocksIn, Thing, Thing-dec, Con, Con-dec, State, Live, Link, outer, up}
+use Rattle.places.specs.Store.{op, blk, reg, usg, successors, blockUses, regions, ops, Fam, slots, useSets, regs, opsIn, blocksIn, Thing, Thing-dec, Con, Con-dec, State, Live, Link, outer, up}
 use Rattle.places.specs.Parts.{nodeIn, rowsOf, conOf}
 use Rattle.places.specs.View.{num}
-use Rattle.rules.specs.Table.{any, some-and, is-some}
+use Rattle.rules.specs.Table.{some-and}
 use Rattle.rules.specs.Verdict.{is-clean}
 use Rattle.edit.specs.Answer.{Reply, clean, refuse, found}
 use Rattle.places.specs.Verdict.{asBool, firstMet, lastThing, follows, heldBy, terminates, lackable, endsWell, namesBlock, leadsTo, strayUser, lostPred, inBlock, blockVerdict, regionVerdict, tooEarly}
 use Rattle.seqs.proofs.Base.{tick-yes, tick-no, count-append, in-head, in-tail}
-use Rattle.places.proofs.Steps.{some-inj, some-none, thing-eq, listed, once}
+use Rattle.places.proofs.Steps.{some-none, thing-eq, listed, once}
 use Rattle.places.proofs.Nest.{isNest, famRole, role-is}
 use Rattle.places.proofs.VerdictWalk.{verdict-eq}
-use Rattle.places.proofs.Bits.{bit-false, bit-eqb}
 use Rattle.context.specs.declared.Layout.{Layout}
 use Rattle.context.specs.Layout.{ncOf}
 use Rattle.context.specs.Memory.{con, stateOf, decode, SoundStore, headCode, HomeIs}
-use Rattle.context.specs.Reading.{listOf, lastCode, NextIs, LastIs, NumberIs}
+use Rattle.context.specs.Reading.{listOf, lastCode, NextIs, LastIs, NumberIs, UserIs}
 use Rattle.context.proofs.Families.{con-back}
 use Rattle.context.proofs.Places.{place<}
-use Rattle.walk.specs.Judge.{onOp, alone, userPlaced, userLeads, UserIs}
+use Rattle.walk.specs.Judge.{onOp, alone, userLeads}
 use Rattle.context.proofs.Cursor.{row, single}
+use Rattle.context.proofs.Users.{con-block-uses, around-none, around-some, op-free, op-in}
 use Rattle.walk.proofs.OwnUses.{con-successors}
 
 -- ---- booleans
@@ -42,18 +40,6 @@ as-no (yes e) n = absurd (n e)
 as-no (no e) n = refl
 
 -- ---- one search: what is left to search says what the whole says
-
-pub any-hit : {A : Type 0} (p : A → Bool) (t l : List A) (y : A) (r : List A) → any p t ≡ any p l → t ≡ y ∷ r → p y ≡ true → true ≡ any p l
-unfolding any
-any-hit p t l y r e q h = sym (ap (λ (b : Bool). b || any p r) h) ∙ ap (any p) (sym q) ∙ e
-
-pub any-miss : {A : Type 0} (p : A → Bool) (t l : List A) (y : A) (r : List A) → any p t ≡ any p l → t ≡ y ∷ r → p y ≡ false → any p r ≡ any p l
-unfolding any
-any-miss p t l y r e q h = sym (ap (λ (b : Bool). b || any p r) h) ∙ ap (any p) (sym q) ∙ e
-
-pub any-over : {A : Type 0} (p : A → Bool) (t l : List A) → any p t ≡ any p l → t ≡ [] → false ≡ any p l
-unfolding any
-any-over p t l e q = ap (any p) (sym q) ∙ e
 
 pub met-hit : (f : Thing → Reply) (t l : List Thing) (y : Thing) (r : List Thing) → firstMet f t ≡ firstMet f l → t ≡ y ∷ r → is-clean (f y) ≡ false → f y ≡ firstMet f l
 met-hit f t l y r e q h = sym (ap {B = Reply} (λ (b : Bool). elim b [ true ↦ firstMet f r | false ↦ f y ]) h) ∙ ap (firstMet f) (sym q) ∙ e
@@ -110,19 +96,6 @@ split-in x (y ∷ l) i =
 
 -- ---- where things stand
 
-pub con-block-uses : (l : Layout) (b : ℕ) → con l useSets (l .values + b) ≡ (blockUses, (blk, b))
-unfolding rowsOf
-con-block-uses l b =
-    let q : l .values + b - l .values ≡ b = omega arith in
-    if-neg {C = Con} (decLt (l .values + b) (l .values)) (λ h. absurd (omega (arith, h))) (valueUses, (val, l .values + b)) (blockUses, (blk, l .values + b - l .values)) ∙ ap (λ (p : ℕ). (blockUses, (blk, p))) q
-
-pub con-slot : (l : Layout) (k : ℕ) → con l slots k .1 ≡ (op, k / 2)
-unfolding rowsOf
-con-slot l k =
-    by-cases (ℕ-discrete (k % 2) 0)
-    (λ e. ap (λ (c : Con). c .1) (if-pos {C = Con} (ℕ-discrete (k % 2) 0) e (operands, (op, k / 2)) (successors, (op, k / 2))))
-    (λ e. ap (λ (c : Con). c .1) (if-neg {C = Con} (ℕ-discrete (k % 2) 0) e (operands, (op, k / 2)) (successors, (op, k / 2))))
-
 -- the list k of the use sets is the block's exactly if its number says so
 pub held-at : (l : Layout) (b k : ℕ) → k ≡ l .values + b → heldBy (some (con l useSets k)) (blockUses, (blk, b)) ≡ true
 held-at l b k e = as-yes (Con-dec (con l useSets k) (blockUses, (blk, b))) (ap (con l useSets) e ∙ con-block-uses l b)
@@ -142,13 +115,6 @@ held-by l b (suc k) o e = (
 )
 
 -- what lies around: by the number stored for it
-pub around-none : {l : Layout} {m : List ℕ} (f : Fam) (n h : ℕ) → HomeIs l f n m h → h ≡ 0 → stateOf l m .own (nodeIn f, n) f ≡ none
-around-none {l} f n h H z = H .own ∙ ap (λ (i : ℕ). conOf (con l f) (decode i)) z
-
-pub around-some : {l : Layout} {m : List ℕ} (f : Fam) (n h : ℕ) → HomeIs l f n m h → (h ≡ 0 → ⊥) → stateOf l m .own (nodeIn f, n) f ≡ some (con l f (h - 1))
-around-some {l} f n zero H z = absurd (z refl)
-around-some {l} f n (suc k) H z = let q : suc k - 1 ≡ k = omega arith in H .own ∙ ap (λ (i : ℕ). some (con l f i)) (sym q)
-
 module _ {l : Layout} {m : List ℕ} (S : SoundStore l m) where
   abbrev P : State
   P = stateOf l m
@@ -157,34 +123,7 @@ module _ {l : Layout} {m : List ℕ} (S : SoundStore l m) where
   pub around-live : (f : Fam) (n k : ℕ) → P .own (nodeIn f, n) f ≡ some (con l f k) → Live P (con l f k .1)
   around-live f n k e = S .sound .linked .link (nodeIn f, n) f (con l f k) e .home
 
-  -- ---- the user of a use
-
-  pub slot-there : (u h : ℕ) → Live P (usg, u) → HomeIs l slots u m h → h ≡ 0 → ⊥
-  slot-there u h v H z = some-none (S .sound .placed (usg, u) v .in-slot) (around-none slots u h H z)
-
-  pub slot-pos : (u h : ℕ) → Live P (usg, u) → HomeIs l slots u m h → 0 < h
-  slot-pos u zero v H = absurd (slot-there u 0 v H refl)
-  slot-pos u (suc h) v H = omega arith
-
-  pub user-is : (u h : ℕ) → Live P (usg, u) → HomeIs l slots u m h → UserIs l u m ((h - 1) / 2)
-  user-is u h v H = record { is = ap outer (around-some slots u h H (slot-there u h v H)) ∙ ap some (con-slot l (h - 1)) }
-
-  pub user-live : (u r : ℕ) → Live P (usg, u) → UserIs l u m r → Live P (op, r)
-  user-live u r v U = go (P .own (usg, u) slots) refl (U .is)
-    where
-      go : (o : Option Con) → P .own (usg, u) slots ≡ o → outer o ≡ some (op, r) → Live P (op, r)
-      go none e q = absurd (some-none q refl)
-      go (some c) e q = subst (λ (y : Thing). Live P y) (some-inj q) (S .sound .linked .link (usg, u) slots c e .home)
-
   -- the block of an operation
-  pub op-free : (o h : ℕ) → HomeIs l opsIn o m h → h ≡ 0 → up P (op, o) ≡ none
-  unfolding up
-  op-free o h H z = ap outer (around-none opsIn o h H z)
-
-  pub op-in : (o h : ℕ) → HomeIs l opsIn o m h → (h ≡ 0 → ⊥) → up P (op, o) ≡ some (blk, h - 1)
-  unfolding up rowsOf
-  op-in o h H z = ap outer (around-some opsIn o h H z)
-
   pub op-in-live : (o h : ℕ) → HomeIs l opsIn o m h → (h ≡ 0 → ⊥) → Live P (blk, h - 1)
   unfolding rowsOf
   op-in-live o h H z = around-live opsIn o (h - 1) (around-some opsIn o h H z)
@@ -219,24 +158,13 @@ module _ {l : Layout} {m : List ℕ} (S : SoundStore l m) where
 
   -- ---- the tests of a use
 
-  pub placed-is : (u r h : ℕ) → UserIs l u m r → HomeIs l opsIn r m h → (h ≡ 0 → userPlaced P (usg, u) ≡ false) × ((h ≡ 0 → ⊥) → userPlaced P (usg, u) ≡ true)
-  unfolding some-and is-some
-  placed-is u r h U H = (
-    λ z. ap (λ (o : Option Thing). some-and o (λ q. is-some (up P q))) (U .is) ∙ ap is-some (op-free r h H z),
-    λ z. ap (λ (o : Option Thing). some-and o (λ q. is-some (up P q))) (U .is) ∙ ap is-some (op-in r h H z),
-  )
-
-  pub placed-code : (u r h : ℕ) → UserIs l u m r → HomeIs l opsIn r m h → not (eqb h 0) ≡ userPlaced P (usg, u)
-  placed-code u r zero U H = sym (placed-is u r 0 U H .0 refl)
-  placed-code u r (suc h) U H = ap not (bit-false (eqb (suc h) 0) (bit-eqb (suc h) 0 ∙ tick-no (ℕ-discrete (suc h) 0) (λ q. absurd (omega (arith, q))))) ∙ sym (placed-is u r (suc h) U H .1 (λ q. absurd (omega (arith, q))))
-
   pub leads-none : (b u r h : ℕ) → UserIs l u m r → HomeIs l opsIn r m h → h ≡ 0 → userLeads P (blk, b) (usg, u) ≡ false
   unfolding some-and
-  leads-none b u r h U H z = ap (λ (o : Option Thing). some-and o (λ q. some-and (up P q) (leadsTo P (blk, b)))) (U .is) ∙ ap (λ (o : Option Thing). some-and o (leadsTo P (blk, b))) (op-free r h H z)
+  leads-none b u r h U H z = ap (λ (o : Option Thing). some-and o (λ q. some-and (up P q) (leadsTo P (blk, b)))) (U .is) ∙ ap (λ (o : Option Thing). some-and o (leadsTo P (blk, b))) (op-free S r h H z)
 
   pub leads-some : (b u r h : ℕ) → UserIs l u m r → HomeIs l opsIn r m h → (h ≡ 0 → ⊥) → userLeads P (blk, b) (usg, u) ≡ leadsTo P (blk, b) (blk, h - 1)
   unfolding some-and
-  leads-some b u r h U H z = ap (λ (o : Option Thing). some-and o (λ q. some-and (up P q) (leadsTo P (blk, b)))) (U .is) ∙ ap (λ (o : Option Thing). some-and o (leadsTo P (blk, b))) (op-in r h H z)
+  leads-some b u r h U H z = ap (λ (o : Option Thing). some-and o (λ q. some-and (up P q) (leadsTo P (blk, b)))) (U .is) ∙ ap (λ (o : Option Thing). some-and o (leadsTo P (blk, b))) (op-in S r h H z)
 
   -- ---- the last operation of a block
 
@@ -280,12 +208,6 @@ module _ {l : Layout} {m : List ℕ} (S : SoundStore l m) where
 
   pub targets : (o : ℕ) → row l slots (2 * o + 1) m ≡ P .list (op, o) successors
   targets o = ap (λ (c : Con). P .list (c .1) (c .0)) (con-successors l o)
-
-  pub users : (b : ℕ) → row l useSets (l .values + b) m ≡ P .list (blk, b) blockUses
-  users b = ap (λ (c : Con). P .list (c .1) (c .0)) (con-block-uses l b)
-
-  pub set-row : (b : ℕ) → Live P (blk, b) → l .values + b < ncOf l useSets
-  set-row b v = omega (arith, place< S (blk, b) v)
 
   pub slot-row : (o : ℕ) → Live P (op, o) → 2 * o + 1 < ncOf l slots
   slot-row o v = omega (arith, place< S (op, o) v)

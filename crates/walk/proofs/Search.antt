@@ -1,4 +1,4 @@
--- Searches through one list of the store: for what passes a test, and for the first reply that is not clean. Assumes nothing.
+-- Searches through one list of the store for the first reply that is not clean, and what the searches for a test say. Assumes nothing.
 use mathlib.Core.Path.{_≡_, refl, sym, ap, _∙_}
 use mathlib.Core.Bool.{Bool, true, false, not, _&&_}
 use mathlib.Core.List.{List}
@@ -7,7 +7,7 @@ use Prim.Native.Nat.{ℕ, _+_, _-_, _*_}
 use lib.Dec.{eqb}
 use Rattle.places.specs.Store.{op, blk, reg, blockUses, regions, ops, blocks, Fam, slots, useSets, regs, opsIn, blocksIn, Thing, State}
 use Rattle.places.specs.Parts.{nodeIn, rowsOf}
-use Rattle.places.specs.Verdict.{firstMet, heldBy, namesBlock, strayUser, lostPred, blockVerdict, regionVerdict}
+use Rattle.places.specs.Verdict.{firstMet, heldBy, namesBlock, lostPred, blockVerdict, regionVerdict}
 use Rattle.rules.specs.Table.{any}
 use Rattle.rules.specs.Verdict.{is-clean}
 use Rattle.edit.specs.Answer.{Reply, clean, refuse, found, numbers-of}
@@ -16,9 +16,10 @@ use Rattle.edit.specs.declared.Answer.the-variants.{Accepted, Refused}
 use Rattle.context.specs.declared.Layout.{Layout}
 use Rattle.context.specs.Memory.{stateOf, SoundStore, FirstIs}
 use Rattle.context.specs.Reading.{NextIs}
-use Rattle.walk.specs.Judge.{onOp, userPlaced, userLeads}
+use Rattle.walk.specs.Judge.{onOp, userLeads}
 use Rattle.context.proofs.Cursor.{row, At, first-at, here, at-end, next-at, next-todo}
-use Rattle.walk.proofs.JudgeLaws.{any-hit, any-miss, any-over, met-hit, met-miss, met-over, targets, users}
+use Rattle.walk.proofs.JudgeLaws.{met-hit, met-miss, met-over, targets}
+use Rattle.context.proofs.Users.{users}
 
 pub nay : (b : Bool) → not b ≡ true → b ≡ false
 nay true e = absurd (let z : _≡_ {A = ℕ} 0 1 = cc in omega arith)
@@ -43,30 +44,6 @@ clean-refused v n e = sym (ap (λ (w : Answer). is-clean (numbers-of w)) e ∙ a
 pub nothing : clean ≡ numbers-of (Accepted 0 0)
 unfolding clean numbers-of found
 nothing = refl
-
--- ---- a test
-
-pub record Searching (l : Layout) (f : Fam) (s : ℕ) (m : List ℕ) (k : ℕ) (p : Thing → Bool) : Type 0 where
-  pub at : At l f s m k
-  pub left : any p (at .todo) ≡ any p (row l f s m)
-
-pub searching : {l : Layout} {f : Fam} {s : ℕ} {m : List ℕ} (p : Thing → Bool) (k : ℕ) → FirstIs l f s m k → Searching l f s m k p
-unfolding first-at
-searching p k F = record { at = first-at k F; left = refl }
-
-module _ {l : Layout} {f : Fam} {s : ℕ} {m : List ℕ} {k : ℕ} {p : Thing → Bool} (S : SoundStore l m) (G : Searching l f s m k p) where
-  pub hit : (k ≡ 0 → ⊥) → p (nodeIn f, k - 1) ≡ true → true ≡ any p (row l f s m)
-  hit h e = any-hit p (G .at .todo) (row l f s m) (nodeIn f, k - 1) (here S (G .at) h .later) (G .left) (here S (G .at) h .is) e
-
-  pub miss : (k ≡ 0 → ⊥) → p (nodeIn f, k - 1) ≡ false → (j : ℕ) → NextIs l f (k - 1) m j → Searching l f s m j p
-  miss h e j N =
-      record {
-        at = next-at S (G .at) h j N;
-        left = ap (any p) (next-todo S (G .at) h j N) ∙ any-miss p (G .at .todo) (row l f s m) (nodeIn f, k - 1) (here S (G .at) h .later) (G .left) (here S (G .at) h .is) e;
-      }
-
-  pub over : k ≡ 0 → false ≡ any p (row l f s m)
-  over z = any-over p (G .at .todo) (row l f s m) (G .left) (at-end S (G .at) z)
 
 -- ---- the first that is not clean
 
@@ -100,13 +77,6 @@ names? P b u = heldBy (P .own u useSets) (blockUses, (blk, b))
 pub names-is : {l : Layout} {m : List ℕ} (S : SoundStore l m) (b o : ℕ) → any (names? (stateOf l m) b) (row l slots (2 * o + 1) m) ≡ namesBlock (stateOf l m) (blk, b) (op, o)
 unfolding namesBlock
 names-is {l} {m} S b o = ap (any (names? (stateOf l m) b)) (targets S o)
-
-abbrev pub stray? : State → Thing → Bool
-stray? P u = not (userPlaced P u)
-
-pub stray-is : {l : Layout} {m : List ℕ} (S : SoundStore l m) (b : ℕ) → any (stray? (stateOf l m)) (row l useSets (l .values + b) m) ≡ strayUser (stateOf l m) (blk, b)
-unfolding strayUser
-stray-is {l} {m} S b = ap (any (stray? (stateOf l m))) (users S b)
 
 abbrev pub lost? : State → ℕ → Thing → Bool
 lost? P b u = not (userLeads P (blk, b) u)

@@ -23,10 +23,10 @@ use Rattle.context.specs.Layout.{kindOf, famOf}
 use Rattle.context.specs.Memory.{con, stateOf, SoundStore}
 use Rattle.context.specs.Reading.{listOf}
 use Rattle.context.proofs.Cursor.{row, At, here}
+use Rattle.context.proofs.Users.{con-block-uses}
 use Rattle.walk.specs.Erase.{innerCode}
 use Rattle.walk.specs.Tests.{within, stray, straySet, strayValue, strayThing, DepthIs, Testable, eraseCode}
 use Rattle.walk.proofs.DropWalk.{list-of}
-use Rattle.walk.proofs.JudgeLaws.{con-block-uses}
 use Rattle.walk.proofs.EraseLaws.{region-none}
 use Rattle.walk.proofs.EraseWalk.{inner≤, inner, inner-node}
 

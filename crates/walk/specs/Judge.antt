@@ -2,14 +2,13 @@
 use mathlib.Core.Path.{_≡_}
 use mathlib.Core.Bool.{Bool}
 use mathlib.Core.List.{List}
-use mathlib.Core.Option.{some}
 use Prim.Native.Nat.{ℕ}
 use lib.ListN.{length}
 use Rattle.edit.specs.Answer.{Reply, clean, numbers-of}
 use Rattle.edit.specs.declared.Answer.{Answer}
-use Rattle.places.specs.Store.{op, blk, reg, usg, slots, Thing, State, outer, up}
+use Rattle.places.specs.Store.{op, blk, reg, slots, Thing, State, outer, up}
 use Rattle.places.specs.Verdict.{leadsTo, blockVerdict, regionVerdict, opVerdict}
-use Rattle.rules.specs.Table.{some-and, is-some}
+use Rattle.rules.specs.Table.{some-and}
 use Rattle.context.specs.declared.Layout.{Layout}
 use Rattle.context.specs.Memory.{stateOf}
 
@@ -33,13 +32,6 @@ pub record BlockJudged (l : Layout) (b : ℕ) (m : List ℕ) (r : Answer) : Type
 pub record RegionJudged (l : Layout) (p : ℕ) (m : List ℕ) (r : Answer) : Type 0 where
   pub is : numbers-of r ≡ regionVerdict (stateOf l m) (onOp (stateOf l m)) (reg, p)
 
--- is the user of a use in a block, and does that block lead to b?
-abbrev pub userPlaced : State → Thing → Bool
-userPlaced P u = some-and (outer (P .own u slots)) (λ o. is-some (up P o))
-
+-- is the user of a use in a block that leads to b?
 abbrev pub userLeads : State → Thing → Thing → Bool
 userLeads P b u = some-and (outer (P .own u slots)) (λ o. some-and (up P o) (leadsTo P b))
-
--- the operation at which a use stands
-pub record UserIs (l : Layout) (u : ℕ) (m : List ℕ) (r : ℕ) : Type 0 where
-  pub is : outer (stateOf l m .own (usg, u) slots) ≡ some (op, r)

@@ -6,7 +6,7 @@ use edit::Answer;
 ghost use mathlib.Core.Path.{_≡_};
 ghost use mathlib.Core.Bool.{_||_};
 ghost use Rattle.places.specs.Store.{op, blk, reg, usg, useSets, vals, Live, up};
-ghost use Rattle.places.specs.Verdict.{terminates, lackable, endsWell, namesBlock, leadsTo, strayUser, lostPred, tooEarly};
+ghost use Rattle.places.specs.Verdict.{terminates, lackable, endsWell, namesBlock, leadsTo, lostPred, tooEarly};
 ghost use Rattle.rules.specs.Table.{any, some-and};
 ghost use Rattle.rules.specs.Verdict.{is-clean};
 ghost use Rattle.edit.specs.Answer.{numbers-of};
@@ -14,7 +14,7 @@ ghost use Rattle.context.specs.Memory.{con, stateOf, SoundStore};
 ghost use Rattle.context.specs.Performed.{Performed};
 ghost use Rattle.edit.specs.Record.{the-operation, the-block, the-region, drop-uses, erase-operation, erase-block, erase-region, verdict};
 ghost use Rattle.walk.specs.Drop.{CanDrop, OwnDropped, Dropped, zeros, CanTally, Tallied};
-ghost use Rattle.walk.specs.Judge.{userPlaced, userLeads, UserIs, BlockAlone, OpJudged, BlockJudged, RegionJudged};
+ghost use Rattle.walk.specs.Judge.{userLeads, BlockAlone, OpJudged, BlockJudged, RegionJudged};
 ghost use Prim.Native.Nat.{_≤_, _<_};
 ghost use lib.ListN.{length};
 ghost use Rattle.context.specs.Layout.{kindOf, ncOf};
@@ -249,52 +249,17 @@ fn leads_to(m: &[u32], l: Layout, b: usize, p: usize) -> bool
     names_block(m, l, b, k - 1)
 }
 
-// The operation at which the use stands.
-fn user_of(m: &[u32], l: Layout, u: usize) -> usize
-    requires { ⌜ SoundStore l (now m) × Live (stateOf l (now m)) (usg, u) ⌝ }
-    ensures { λ r. ⌜ UserIs l u (now (m .entry)) r ⌝ }
-{
-    let h = context::home_of(m, l, 0, u);
-    (h - 1) / 2
-}
-
-// Whether the user of the use is in a block.
-fn user_placed(m: &[u32], l: Layout, u: usize) -> bool
-    requires { ⌜ SoundStore l (now m) × Live (stateOf l (now m)) (usg, u) ⌝ }
-    ensures { λ r. ⌜ r ≡ userPlaced (stateOf l (now (m .entry))) (usg, u) ⌝ }
-{
-    let o = user_of(m, l, u);
-    let h = context::home_of(m, l, 4, o);
-    h != 0
-}
-
 // Whether the block of the use's user leads to the block at the place `b`.
 fn user_leads(m: &[u32], l: Layout, b: usize, u: usize) -> bool
     requires { ⌜ SoundStore l (now m) × Live (stateOf l (now m)) (blk, b) × Live (stateOf l (now m)) (usg, u) ⌝ }
     ensures { λ r. ⌜ r ≡ userLeads (stateOf l (now (m .entry))) (blk, b) (usg, u) ⌝ }
 {
-    let o = user_of(m, l, u);
+    let o = context::value::user_of(m, l, u);
     let h = context::home_of(m, l, 4, o);
     if h == 0 {
         return false;
     }
     leads_to(m, l, b, h - 1)
-}
-
-// Whether a user of the block is in no block.
-fn stray_user(m: &[u32], l: Layout, b: usize) -> bool
-    requires { ⌜ SoundStore l (now m) × Live (stateOf l (now m)) (blk, b) ⌝ }
-    ensures { λ r. ⌜ r ≡ strayUser (stateOf l (now (m .entry))) (blk, b) ⌝ }
-{
-    let mut k = context::first_of(m, l, 1, l.values + b);
-    while k != 0 {
-        let g = user_placed(m, l, k - 1);
-        if !g {
-            return true;
-        }
-        k = context::next_of(m, l, 1, k - 1);
-    }
-    false
 }
 
 // Whether a predecessor of the block does not lead to it.
@@ -336,7 +301,7 @@ fn judge_block(m: &[u32], l: Layout, b: usize) -> Answer
     if !g {
         return Answer::Accepted(2, n);
     }
-    let s = stray_user(m, l, b);
+    let s = context::basic_block::stray_user(m, l, b);
     if s {
         return Answer::Refused(18);
     }
@@ -516,7 +481,7 @@ fn is_stray(m: &[u32], l: Layout, s: &[u32], u: usize) -> bool
     requires { ⌜ Live (stateOf l (now m)) (usg, u) ⌝ }
     ensures { λ r. ⌜ r ≡ stray (stateOf l (now (m .entry))) (marksIn (now (s .entry))) (usg, u) ⌝ }
 {
-    let o = user_of(m, l, u);
+    let o = context::value::user_of(m, l, u);
     s[o] == 0
 }
 

@@ -6,7 +6,7 @@ use Rattle.context.specs.Layout.{kindOf, famOf}
 use Rattle.context.specs.Memory.{stateOf}
 use Rattle.context.proofs.Cursor.{ahead, here, next-less}
 use Rattle.walk.specs.Tests.{strayThing, marksIn}
-use Rattle.walk.proofs.Search.{Searching, searching, hit, miss, over}
+use Rattle.context.proofs.Search.{Searching, searching, hit, miss, over}
 use Rattle.walk.proofs.EraseWalk.{inner-list}
 use Rattle.walk.proofs.Strays.{child-is, child-testable, inTest, test-own, test-inside, test-none}
 use Prim.Native.Nat.{ℕ, _+_, _-_, _<_}

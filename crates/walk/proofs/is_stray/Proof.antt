@@ -2,8 +2,8 @@ use native.Mathlib.Omega.{arith}
 use Rattle.places.specs.Store.{op}
 use Rattle.context.specs.Memory.{stateOf}
 use Rattle.context.proofs.Places.{place<}
+use Rattle.context.proofs.Users.{user-live}
 use Rattle.walk.specs.Tests.{marksIn}
-use Rattle.walk.proofs.JudgeLaws.{user-live}
 use Rattle.walk.proofs.Strays.{stray-is}
 use borrow.Author.Needs.{needs}
 use Rattle.walk.proofs.is_stray.Statement.{statement}

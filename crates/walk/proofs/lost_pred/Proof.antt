@@ -7,8 +7,9 @@ use Rattle.places.specs.Store.{blk, useSets}
 use Rattle.context.specs.Memory.{stateOf}
 use Rattle.context.proofs.Places.{place<}
 use Rattle.context.proofs.Cursor.{ahead, here, next-less}
-use Rattle.walk.proofs.Search.{Searching, searching, hit, miss, over, lost?, lost-is}
-use Rattle.walk.proofs.JudgeLaws.{set-row}
+use Rattle.context.proofs.Search.{Searching, searching, hit, miss, over}
+use Rattle.context.proofs.Users.{set-row}
+use Rattle.walk.proofs.Search.{lost?, lost-is}
 use Rattle.walk.proofs.lost_pred.Statement.{statement}
 use Rattle.walk.proofs.lost_pred.Tie as tie
 

@@ -6,7 +6,8 @@ use Rattle.places.specs.Store.{op, blk, slots}
 use Rattle.context.specs.Memory.{stateOf}
 use Rattle.context.proofs.Places.{place<}
 use Rattle.context.proofs.Cursor.{ahead, here, next-less}
-use Rattle.walk.proofs.Search.{Searching, searching, hit, miss, over, names?, names-is}
+use Rattle.context.proofs.Search.{Searching, searching, hit, miss, over}
+use Rattle.walk.proofs.Search.{names?, names-is}
 use Rattle.walk.proofs.JudgeLaws.{held-by, slot-row}
 use Rattle.walk.proofs.names_block.Statement.{statement}
 use Rattle.walk.proofs.names_block.Tie as tie

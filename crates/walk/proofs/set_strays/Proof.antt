@@ -5,7 +5,7 @@ use Rattle.places.specs.Store.{useSets}
 use Rattle.context.specs.Memory.{stateOf}
 use Rattle.context.proofs.Cursor.{ahead, here, next-less}
 use Rattle.walk.specs.Tests.{stray, marksIn}
-use Rattle.walk.proofs.Search.{Searching, searching, hit, miss, over}
+use Rattle.context.proofs.Search.{Searching, searching, hit, miss, over}
 use Rattle.walk.proofs.Strays.{set-is}
 use Rattle.walk.proofs.set_strays.Statement.{statement}
 use Rattle.walk.proofs.set_strays.Tie as tie

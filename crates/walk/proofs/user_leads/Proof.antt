@@ -2,7 +2,8 @@ use borrow.Author.Needs.{needs}
 use mathlib.Core.Path.{sym, _∙_}
 use Rattle.places.specs.Store.{op}
 use Rattle.context.proofs.Places.{place<}
-use Rattle.walk.proofs.JudgeLaws.{user-live, op-in-live, leads-none, leads-some}
+use Rattle.context.proofs.Users.{user-live}
+use Rattle.walk.proofs.JudgeLaws.{op-in-live, leads-none, leads-some}
 use Rattle.walk.proofs.user_leads.Statement.{statement}
 use Rattle.walk.proofs.user_leads.Tie as tie
 

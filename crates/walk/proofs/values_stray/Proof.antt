@@ -6,7 +6,7 @@ use Rattle.places.specs.Store.{vals}
 use Rattle.context.specs.Memory.{stateOf}
 use Rattle.context.proofs.Cursor.{ahead, here, next-less}
 use Rattle.walk.specs.Tests.{strayValue, marksIn}
-use Rattle.walk.proofs.Search.{Searching, searching, hit, miss, over}
+use Rattle.context.proofs.Search.{Searching, searching, hit, miss, over}
 use Rattle.walk.proofs.Strays.{value-set}
 use Rattle.walk.proofs.values_stray.Statement.{statement}
 use Rattle.walk.proofs.values_stray.Tie as tie

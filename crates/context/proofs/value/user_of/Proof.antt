@@ -1,9 +1,9 @@
 use native.Mathlib.Omega.{arith}
 use Rattle.places.specs.Store.{usg}
 use Rattle.context.proofs.Places.{place<}
-use Rattle.walk.proofs.JudgeLaws.{slot-pos, user-is}
-use Rattle.walk.proofs.user_of.Statement.{statement}
-use Rattle.walk.proofs.user_of.Tie as tie
+use Rattle.context.proofs.Users.{slot-pos, user-is}
+use Rattle.context.proofs.value.user_of.Statement.{statement}
+use Rattle.context.proofs.value.user_of.Tie as tie
 
 home-of-requires : tie.Need-home-of-requires
 home-of-requires c κs =

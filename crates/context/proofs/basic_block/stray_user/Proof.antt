@@ -4,13 +4,13 @@ use mathlib.Core.Bool.{not}
 use Prim.Native.Nat.{_+_}
 use native.Mathlib.Omega.{arith}
 use Rattle.places.specs.Store.{blk, useSets}
 use Rattle.context.specs.Memory.{stateOf}
 use Rattle.context.proofs.Places.{place<}
 use Rattle.context.proofs.Cursor.{ahead, here, next-less}
-use Rattle.walk.proofs.Search.{Searching, searching, hit, miss, over, stray?, stray-is}
-use Rattle.walk.proofs.JudgeLaws.{set-row}
-use Rattle.walk.proofs.stray_user.Statement.{statement}
-use Rattle.walk.proofs.stray_user.Tie as tie
+use Rattle.context.proofs.Search.{Searching, searching, hit, miss, over}
+use Rattle.context.proofs.Users.{set-row, stray?, stray-is}
+use Rattle.context.proofs.basic_block.stray_user.Statement.{statement}
+use Rattle.context.proofs.basic_block.stray_user.Tie as tie
 
 abbrev Inv-loop : tie.InvT-loop
 Inv-loop m l b k₀ k =

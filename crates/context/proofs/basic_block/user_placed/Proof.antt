@@ -1,9 +1,9 @@
 use borrow.Author.Needs.{needs}
 use Rattle.places.specs.Store.{op}
 use Rattle.context.proofs.Places.{place<}
-use Rattle.walk.proofs.JudgeLaws.{user-live, placed-code}
-use Rattle.walk.proofs.user_placed.Statement.{statement}
-use Rattle.walk.proofs.user_placed.Tie as tie
+use Rattle.context.proofs.Users.{user-live, placed-code}
+use Rattle.context.proofs.basic_block.user_placed.Statement.{statement}
+use Rattle.context.proofs.basic_block.user_placed.Tie as tie
 
 user-of-requires : tie.Need-user-of-requires
 user-of-requires c κs = search needs

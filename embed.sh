@@ -63,4 +63,6 @@ echo "both print what is stored"
 echo "== the boundary of the compiled library"
 cc -std=c99 -pedantic -Wall -Wextra -Werror -I include tests/guarded.c "$RECIPE_LIB" -o target/embed/guarded
 target/embed/guarded differential/recorded.bin
+cc -std=c99 -pedantic -Wall -Wextra -Werror -I include tests/deepest_nest.c "$RECIPE_LIB" -lpthread -o target/embed/deepest_nest
+target/embed/deepest_nest
 echo "embedding: all passed"

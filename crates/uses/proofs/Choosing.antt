@@ -1,24 +1,20 @@
--- The block of a use's operation, and whether its number is listed. Assumes nothing.
+-- The block of a use's operation, and whether it is marked. Assumes nothing.
 use mathlib.Core.Path.{_≡_, refl, sym, ap, _∙_}
 use mathlib.Core.Logic.{_≢_}
-use mathlib.Core.Bool.{Bool, true, false, not, _||_}
-use mathlib.Core.List.{List, [], _∷_}
+use mathlib.Core.Bool.{Bool, true, false, not}
+use mathlib.Core.List.{List}
 use mathlib.Core.Option.{Option, some}
-use native.Mathlib.Numerals.{add-one}
 use native.Mathlib.Omega.{arith}
-use Prim.Native.Nat.{ℕ, zero, suc, _+_, _-_, _≤_, _<_}
-use lib.ListN.{length, getD, drop}
-use lib.Seq.{drop-cons}
-use borrow.Author.Tests.{eq-eqb, ne-eqb}
+use Prim.Native.Nat.{ℕ, zero, suc, _+_, _-_}
 use Rattle.rules.specs.Table.{some-and, member}
-use Rattle.places.specs.Store.{op, blk, usg, ops, opsIn, Thing, Con, State, Live, outer, up}
+use Rattle.places.specs.Store.{op, blk, usg, ops, slots, opsIn, Thing, Con, State, Live, outer, up}
 use Rattle.places.specs.View.{num}
 use Rattle.places.specs.Parts.{conOf, rowsOf}
 use Rattle.places.proofs.Steps.{up-live}
 use Rattle.context.specs.declared.Layout.{Layout}
 use Rattle.context.specs.Memory.{con, decode, stateOf, SoundStore, HomeIs}
-use Rattle.context.specs.Reading.{NumberIs, UserIs}
-use Rattle.uses.specs.Retarget.{blockBy, BlockOf, standsIn, Chosen}
+use Rattle.context.specs.Reading.{UserIs}
+use Rattle.uses.specs.Retarget.{blockBy, BlockOf, marked, Marks, markedBy, Chosen}
 
 pub not-true : (b : Bool) → not b ≡ true → b ≡ false
 not-true true e = absurd (let z : _≡_ {A = ℕ} 0 1 = cc in omega arith)
@@ -42,43 +38,37 @@ pub block-of : {l : Layout} {m : List ℕ} (u o r : ℕ) → UserIs l u m o → 
 unfolding up
 block-of {l} u o r U R = record { user = (op, o); at = U .is; is = ap outer (R .own) ∙ outside l r }
 
+-- does the use stand at an operation of a block with a listed number?
+abbrev pub standsIn : State → List ℕ → Thing → Bool
+standsIn P ps u = some-and (outer (P .own u slots)) (λ o. some-and (up P o) (λ c. member (num P c) ps))
+
 module _ {l : Layout} {m : List ℕ} (u r : ℕ) (B : BlockOf l u m r) where
   abbrev Q : State
   Q = stateOf l m
 
-  -- ---- is its number listed?
-
-  module _ (ps : List ℕ) where
-    stands : standsIn Q ps (usg, u) ≡ some-and (blockBy r) (λ c. member (num Q c) ps)
-    unfolding some-and
-    stands = ap (λ (o : Option Thing). some-and o (λ o. some-and (up Q o) (λ c. member (num Q c) ps))) (B .at) ∙ ap (λ (o : Option Thing). some-and o (λ c. member (num Q c) ps)) (B .is)
-
-    pub in-none : r ≡ 0 → Chosen l u ps m false
-    unfolding some-and
-    in-none z = record { is = sym (stands ∙ ap (λ (k : ℕ). some-and (blockBy k) (λ c. member (num Q c) ps)) z) }
-
-    pub in-block : r ≢ 0 → (x : ℕ) → NumberIs l blk (r - 1) m x → (t : Bool) → t ≡ member x ps → Chosen l u ps m t
-    unfolding some-and
-    in-block n x N t e =
-        let z : r ≡ suc (r - 1) = omega (arith, n) in
-        record { is = e ∙ ap (λ (y : ℕ). member y ps) (N .is) ∙ sym (stands ∙ ap (λ (k : ℕ). some-and (blockBy k) (λ c. member (num Q c) ps)) z) }
-
   pub block-live : SoundStore l m → r ≢ 0 → Live Q (blk, r - 1)
   block-live S n = let z : r ≡ suc (r - 1) = omega (arith, n) in up-live (S .sound .linked) (B .user) (blk, r - 1) (B .is ∙ ap blockBy z)
 
--- ---- is a number listed? what is left decides
+  -- ---- is it marked?
 
-pub met : (us : List ℕ) (i x y : ℕ) → i < length us → y ≡ getD us i 0 → y ≡ x → true ≡ member x (drop i us)
-unfolding member
-met us i x y h g e = sym (ap (member x) (drop-cons us i 0 h) ∙ ap (λ (b : Bool). b || member x (drop (suc i) us)) (eq-eqb (getD us i 0) x (sym g ∙ e)))
+  module _ (w : List ℕ) where
+    pub in-none : r ≡ 0 → Chosen l u w m false
+    in-none z = record { block = r; at = B; is = sym (ap (markedBy w) z) }
 
-pub passed : (us : List ℕ) (i x y : ℕ) → i < length us → y ≡ getD us i 0 → y ≢ x → member x (drop (i + 1) us) ≡ member x (drop i us)
-unfolding member
-passed us i x y h g n = ap (λ (k : ℕ). member x (drop k us)) (add-one i) ∙ sym (ap (member x) (drop-cons us i 0 h) ∙ ap (λ (b : Bool). b || member x (drop (suc i) us)) (ne-eqb (getD us i 0) x (λ e. n (g ∙ e))))
+    pub in-block : r ≢ 0 → (t : Bool) → t ≡ marked w (r - 1) → Chosen l u w m t
+    in-block n t e = let z : r ≡ suc (r - 1) = omega (arith, n) in record { block = r; at = B; is = e ∙ sym (ap (markedBy w) z) }
 
-pub none-listed : (us : List ℕ) (i x : ℕ) → length us ≤ i → false ≡ member x (drop i us)
-unfolding member
-none-listed [] zero x h = refl
-none-listed [] (suc i) x h = refl
-none-listed (y ∷ us) zero x h = absurd (omega arith)
-none-listed (y ∷ us) (suc i) x h = none-listed us i x (omega arith)
+  -- ---- is its number listed?
+
+  stands : (ps : List ℕ) → standsIn Q ps (usg, u) ≡ some-and (blockBy r) (λ c. member (num Q c) ps)
+  unfolding some-and
+  stands ps = ap (λ (o : Option Thing). some-and o (λ o. some-and (up Q o) (λ c. member (num Q c) ps))) (B .at) ∙ ap (λ (o : Option Thing). some-and o (λ c. member (num Q c) ps)) (B .is)
+
+-- a use is at a marked block exactly if it is at a listed one
+pub chosen-listed : {l : Layout} {m ps w : List ℕ} → SoundStore l m → Marks l ps m w → {u : ℕ} {r : Bool} → Chosen l u w m r → standsIn (stateOf l m) ps (usg, u) ≡ r
+unfolding some-and
+chosen-listed {l} {m} {ps} {w} S M {u} C = stands u (C .block) (C .at) ps ∙ by (C .block) (C .at) ∙ sym (C .is)
+  where
+    by : (k : ℕ) → BlockOf l u m k → some-and (blockBy k) (λ c. member (num (stateOf l m) c) ps) ≡ markedBy w k
+    by zero B = refl
+    by (suc b) B = sym (M .is b (up-live (S .sound .linked) (B .user) (blk, b) (B .is)))

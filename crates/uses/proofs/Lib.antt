@@ -4,6 +4,7 @@ pub mod Taking
 pub mod Moving
 pub mod Replacing
 pub mod Placing
+pub mod Marking
 pub mod Choosing
 pub mod Retargeting
 pub mod RetargetEdit

@@ -4,13 +4,14 @@ use mathlib.Core.Logic.{_≢_, by-cases, ⊎-elim, if-pos, if-neg}
 use mathlib.Core.Bool.{true, false}
 use mathlib.Core.List.{List, [], _∷_, _++_}
 use mathlib.Core.Option.{Option, none, some}
+use native.Mathlib.Decide.{ℕ-discrete}
 use native.Mathlib.Omega.{arith}
 use Prim.Native.Nat.{ℕ, _-_, _<_, _≤_}
 use Rattle.seqs.specs.Seqs.{count, In, insertAt, without}
 use Rattle.seqs.proofs.Base.{tick-yes, tick-no, count-append, in-head}
 use Rattle.edit.specs.Record.{successor, of-block}
 use Rattle.rules.specs.Table.{some-and, member}
-use Rattle.places.specs.Store.{Kind, op, blk, reg, val, usg, blockUses, Fam, slots, useSets, regs, opsIn, blocksIn, fam, Thing, Thing-dec, Con, State, Fit, UseHeld, enter, leave, outer, up}
+use Rattle.places.specs.Store.{Table, alive, Kind, op, blk, reg, val, usg, blockUses, Fam, slots, useSets, regs, opsIn, blocksIn, fam, Thing, Thing-dec, Con, State, Fit, UseHeld, enter, leave, outer, up}
 use Rattle.places.specs.View.{num}
 use Rattle.places.specs.Alias.{RState}
 use Rattle.places.specs.Hist.{meaning}
@@ -28,7 +29,8 @@ use Rattle.context.specs.Steps.{CanMove, Moved}
 use Rattle.context.proofs.Families.{con-back}
 use Rattle.uses.specs.Look.{DefAt}
 use Rattle.uses.specs.Some.{Between}
-use Rattle.uses.specs.Retarget.{standsIn, RetargetedOne, RetargetedAll}
+use Rattle.uses.specs.Retarget.{marked, Marks, RetargetedOne, RetargetedAll}
+use Rattle.uses.proofs.Choosing.{standsIn, chosen-listed}
 use Rattle.uses.proofs.Looking.{same-row}
 use Rattle.uses.proofs.Placing.{num-move, def-kept}
 use Rattle.context.proofs.Cursor.{row, ahead, At, Here, first-at, here, at-end, next-code, next-at, less}
@@ -102,22 +104,28 @@ module _ (P : State) (c d : Con) (j u : ℕ) (fc : fam (c .0) ≡ useSets) (fd :
 unfoldable pub whole : List ℕ → ℕ → ℕ → RState → RState
 whole ps a b s = rehold (placed (of-block a) (of-block b) (chosen (s .history) ps) (s .history .uses)) s
 
-pub record Going (l : Layout) (d e : ℕ) (ps m₀ : List ℕ) (k : ℕ) (m : List ℕ) : Type 0 where
+-- marks speak of the table of blocks alone
+marks-kept : {l : Layout} {ps w m m′ : List ℕ} → ((k : Kind) → stateOf l m′ .tab k ≡ stateOf l m .tab k) → Marks l ps m w → Marks l ps m′ w
+unfolding alive
+marks-kept {l} {ps} {w} same M = record { long = M .long; is = subst (λ (t : Table). (b : ℕ) → 0 < count ℕ-discrete b (t .order) → marked w b ≡ member (t .num b) ps) (sym (same blk)) (M .is) }
+
+pub record Going (l : Layout) (d e : ℕ) (ps w m₀ : List ℕ) (k : ℕ) (m : List ℕ) : Type 0 where
   pub sound : SoundStore l m
   pub rest : part l m 14 ≡ part l m₀ 14
   pub tables : (k : Kind) → stateOf l m .tab k ≡ stateOf l m₀ .tab k
   pub between : Between l m successor d e
+  pub marks : Marks l ps m w
   pub kept : (n f : ℕ) → DefAt l m₀ successor n f → DefAt l m successor n f
   pub at : At l useSets d m k
   -- those passed stay
   pub passed : (y : Thing) → In Thing-dec y (at .done) → standsIn (stateOf l m) ps y ≡ false
   pub left : (a b : ℕ) → DefAt l m₀ successor a d → DefAt l m₀ successor b e → whole ps a b (meaning (stateOf l m)) ≡ whole ps a b (meaning (stateOf l m₀))
 
-pub begins : {l : Layout} {d e : ℕ} (ps : List ℕ) {m : List ℕ} (k : ℕ) → SoundStore l m → Between l m successor d e → FirstIs l useSets d m k → Going l d e ps m k m
+pub begins : {l : Layout} {d e : ℕ} {ps w m : List ℕ} (k : ℕ) → SoundStore l m → Between l m successor d e → Marks l ps m w → FirstIs l useSets d m k → Going l d e ps w m k m
 unfolding first-at
-begins ps k S W F = record { sound = S; rest = refl; tables = λ k. refl; between = W; kept = λ n f A. A; at = first-at k F; passed = λ y i. absurd (omega (arith, i)); left = λ a b A B. refl }
+begins k S W M F = record { sound = S; rest = refl; tables = λ k. refl; between = W; marks = M; kept = λ n f A. A; at = first-at k F; passed = λ y i. absurd (omega (arith, i)); left = λ a b A B. refl }
 
-module _ {l : Layout} {d e : ℕ} {ps m₀ : List ℕ} {k : ℕ} {m : List ℕ} (G : Going l d e ps m₀ k m) (h : k ≡ 0 → ⊥) where
+module _ {l : Layout} {d e : ℕ} {ps w m₀ : List ℕ} {k : ℕ} {m : List ℕ} (G : Going l d e ps w m₀ k m) (h : k ≡ 0 → ⊥) where
   abbrev S : State
   S = stateOf l m
 
@@ -141,14 +149,14 @@ module _ {l : Layout} {d e : ℕ} {ps m₀ : List ℕ} {k : ℕ} {m : List ℕ} 
 
   module _ (apart : d ≢ e) (j : ℕ) (N : NextIs l useSets (k - 1) m j) where
     abbrev Next : List ℕ → Type 0
-    Next m′ = Going l d e ps m₀ j m′ × (ahead l useSets d m′ j < ahead l useSets d m k)
+    Next m′ = Going l d e ps w m₀ j m′ × (ahead l useSets d m′ j < ahead l useSets d m k)
 
     -- it stays
     stays : standsIn S ps v ≡ false → Next m
     unfolding next-at
     stays n =
         let A : At l useSets d m j = next-at (G .sound) (G .at) h j N in
-        (record { sound = G .sound; rest = G .rest; tables = G .tables; between = G .between; kept = G .kept; at = A; passed = by; left = G .left }, less (G .sound) (G .at) h (G .sound) A refl)
+        (record { sound = G .sound; rest = G .rest; tables = G .tables; between = G .between; marks = G .marks; kept = G .kept; at = A; passed = by; left = G .left }, less (G .sound) (G .at) h (G .sound) A refl)
       where
         by : (y : Thing) → In Thing-dec y (G .at .done ++ v ∷ []) → standsIn S ps y ≡ false
         by y i =
@@ -195,6 +203,7 @@ module _ {l : Layout} {d e : ℕ} {ps m₀ : List ℕ} {k : ℕ} {m : List ℕ} 
           rest = M .rest ∙ G .rest;
           tables = λ k. ap (λ (Q : State). Q .tab k) state ∙ tables-move (con l useSets d) (con l useSets e) (l .uses) v S k ∙ G .tables k;
           between = record { this = G .between .this; other = G .between .other; from = keeps (G .between .this) d (G .between .from); to = keeps (G .between .other) e (G .between .to) };
+          marks = marks-kept (λ k. ap (λ (Q : State). Q .tab k) state ∙ tables-move (con l useSets d) (con l useSets e) (l .uses) v S k) (G .marks);
           kept = λ n f A. keeps n f (G .kept n f A);
           at = at′;
           passed = λ z i. ap (λ (Z : State). standsIn Z ps z) state ∙ stands-kept S (con l useSets d) (con l useSets e) (l .uses) (k - 1) in-d in-e ps z ∙ G .passed z i;
@@ -206,13 +215,13 @@ module _ {l : Layout} {d e : ℕ} {ps m₀ : List ℕ} {k : ℕ} {m : List ℕ} 
           keeps : (n f : ℕ) → DefAt l m successor n f → DefAt l m′ successor n f
           keeps = def-kept (H .own) M successor
 
-    pub goes-on : {m′ : List ℕ} → RetargetedOne l e (k - 1) ps m m′ → Next m′
-    goes-on (RetargetedOne.moved y M) = moves y M
-    goes-on (RetargetedOne.stayed n) = stays n
+    pub goes-on : {m′ : List ℕ} → RetargetedOne l e (k - 1) w m m′ → Next m′
+    goes-on (RetargetedOne.moved C M) = moves (chosen-listed (G .sound) (G .marks) C) M
+    goes-on (RetargetedOne.stayed C) = stays (chosen-listed (G .sound) (G .marks) C)
 
-pub all-passed : {l : Layout} {d e : ℕ} {ps m₀ : List ℕ} {k : ℕ} {m : List ℕ} → Going l d e ps m₀ k m → k ≡ 0 → RetargetedAll l d e ps m₀ m
+pub all-passed : {l : Layout} {d e : ℕ} {ps w m₀ : List ℕ} {k : ℕ} {m : List ℕ} → Going l d e ps w m₀ k m → k ≡ 0 → RetargetedAll l d e ps m₀ m
 unfolding whole
-all-passed {l} {d} {e} {ps} {m₀} {k} {m} G z = record { sound = G .sound; rest = G .rest; tables = G .tables; state = λ a b A B. retarget-accept (stateOf l m₀) (stateOf l m) (G .sound .sound) a b ps (sym (none a b (G .kept a d A)) ∙ G .left a b A B) }
+all-passed {l} {d} {e} {ps} {w} {m₀} {k} {m} G z = record { sound = G .sound; rest = G .rest; tables = G .tables; state = λ a b A B. retarget-accept (stateOf l m₀) (stateOf l m) (G .sound .sound) a b ps (sym (none a b (G .kept a d A)) ∙ G .left a b A B) }
   where
     all-done : (a : List Thing) (b : List Thing) → b ≡ [] → (y : Thing) → In Thing-dec y (a ++ b) → In Thing-dec y a
     all-done a b q y i = omega (arith, i, count-append Thing-dec y a b, ap (count Thing-dec y) q)

@@ -1,14 +1,16 @@
--- The uses of a block at operations of listed blocks move to another block, in one pass over them.
+-- The uses of a block at operations of listed blocks move to another block: the listed blocks are marked, and then the uses are passed once.
 -- Assumes nothing: these are definitions.
 use mathlib.Core.Path.{_≡_}
-use mathlib.Core.Bool.{Bool, true, false}
+use mathlib.Core.Bool.{Bool, true, false, _||_}
 use mathlib.Core.List.{List}
 use mathlib.Core.Option.{Option, none, some}
 use Prim.Native.Nat.{ℕ, zero, suc}
+use lib.Dec.{eqb}
+use lib.ListN.{length, getD}
 use Rattle.edit.specs.Record.{successor, retarget-some}
-use Rattle.rules.specs.Table.{some-and, member}
+use Rattle.rules.specs.Table.{member}
 use Rattle.rules.specs.State.{accept}
-use Rattle.places.specs.Store.{Kind, blk, usg, slots, Thing, State, outer, up}
+use Rattle.places.specs.Store.{Kind, blk, usg, slots, Thing, Live, outer, up}
 use Rattle.places.specs.View.{num}
 use Rattle.places.specs.Hist.{meaning}
 use Rattle.context.specs.declared.Layout.{Layout}
@@ -27,17 +29,34 @@ pub record BlockOf (l : Layout) (u : ℕ) (m : List ℕ) (r : ℕ) : Type 0 wher
   pub at : outer (stateOf l m .own (usg, u) slots) ≡ some user
   pub is : up (stateOf l m) user ≡ blockBy r
 
--- does the use stand at an operation of a block with a listed number?
-abbrev pub standsIn : State → List ℕ → Thing → Bool
-standsIn P ps u = some-and (outer (P .own u slots)) (λ o. some-and (up P o) (λ c. member (num P c) ps))
+-- is the block at the place b marked?
+abbrev pub marked : List ℕ → ℕ → Bool
+marked w b = eqb (getD w b 0) 1
 
-pub record Chosen (l : Layout) (u : ℕ) (ps m : List ℕ) (r : Bool) : Type 0 where
-  pub is : r ≡ standsIn (stateOf l m) ps (usg, u)
+-- the block with the number x was marked
+pub record MarkedOne (l : Layout) (x : ℕ) (m w w′ : List ℕ) : Type 0 where
+  pub is : (b : ℕ) → Live (stateOf l m) (blk, b) → marked w′ b ≡ (marked w b || eqb x (num (stateOf l m) (blk, b)))
 
--- the use at the place u moved to the set e, if it is at an operation of a listed block
-pub data RetargetedOne (l : Layout) (e u : ℕ) (ps m : List ℕ) : List ℕ → Type 0 where
-  moved : {m′ : List ℕ} → standsIn (stateOf l m) ps (usg, u) ≡ true → Moved l u e m m′ → RetargetedOne l e u ps m m′
-  stayed : standsIn (stateOf l m) ps (usg, u) ≡ false → RetargetedOne l e u ps m m
+-- those with a listed number are marked
+pub record Marks (l : Layout) (ps m w : List ℕ) : Type 0 where
+  pub long : length w ≡ 1024
+  pub is : (b : ℕ) → Live (stateOf l m) (blk, b) → marked w b ≡ member (num (stateOf l m) (blk, b)) ps
+
+-- a place + 1 of a marked block?
+abbrev pub markedBy : List ℕ → ℕ → Bool
+markedBy w zero = false
+markedBy w (suc b) = marked w b
+
+-- does the use stand at an operation of a marked block?
+pub record Chosen (l : Layout) (u : ℕ) (w m : List ℕ) (r : Bool) : Type 0 where
+  pub block : ℕ
+  pub at : BlockOf l u m block
+  pub is : r ≡ markedBy w block
+
+-- the use at the place u moved to the set e, if it is at an operation of a marked block
+pub data RetargetedOne (l : Layout) (e u : ℕ) (w m : List ℕ) : List ℕ → Type 0 where
+  moved : {m′ : List ℕ} → Chosen l u w m true → Moved l u e m m′ → RetargetedOne l e u w m m′
+  stayed : Chosen l u w m false → RetargetedOne l e u w m m
 
 -- all of the set d
 pub record RetargetedAll (l : Layout) (d e : ℕ) (ps m m′ : List ℕ) : Type 0 where

@@ -6,10 +6,9 @@ use edit::Answer;
 ghost use mathlib.Core.Path.{_≡_};
 ghost use Prim.Native.Nat.{_<_};
 ghost use mathlib.Core.Logic.{_≢_};
-ghost use lib.ListN.{length, drop};
+ghost use lib.ListN.{length, drop, replicate};
 ghost use Rattle.edit.specs.Record.{push-use, insert-use, replace-use, remove-use, pop-use, move-use, operand, successor};
 ghost use Rattle.edit.specs.Taken.{fields-of, edit-of};
-ghost use Rattle.rules.specs.Table.{member};
 ghost use Rattle.places.specs.Store.{usg, slots, useSets, Live};
 ghost use Rattle.places.specs.Roles.{missingCode, defKind};
 ghost use Rattle.context.specs.Layout.{ncOf};
@@ -18,7 +17,7 @@ ghost use Rattle.context.specs.Reading.{listOf};
 ghost use Rattle.context.specs.Steps.{CanMove};
 ghost use Rattle.context.specs.Performed.{Performed};
 ghost use Rattle.uses.specs.Some.{Between, PlacedOne, PlacedAll};
-ghost use Rattle.uses.specs.Retarget.{BlockOf, Chosen, RetargetedOne, RetargetedAll};
+ghost use Rattle.uses.specs.Retarget.{BlockOf, MarkedOne, Marks, Chosen, RetargetedOne, RetargetedAll};
 ghost use Rattle.uses.specs.Look.{slotBy, SlotFound, DefFound, GrowIs, DefNumberIs, Taken};
 
 // The field from which on kinds 34 and 35 list numbers.
@@ -298,20 +297,32 @@ pub fn replace_some(m: &mut [u32], l: Layout, rec: &[u8]) -> Answer
     Answer::Accepted(0, 0)
 }
 
-// Whether the record lists the number.
-fn is_listed(rec: &[u8], number: u32) -> bool
-    ensures { λ r. ⌜ r ≡ member number (drop 2 (fields-of (now (rec .entry)))) ⌝ }
+// The block with this number, if one lives, is marked.
+fn mark_one(m: &[u32], l: Layout, number: u32, marks: &mut [u8])
+    requires { ⌜ SoundStore l (now m) ⌝ }
+    requires { ⌜ length (now marks) ≡ 1024 ⌝ }
+    ensures { λ _. ⌜ MarkedOne l number (now (m .entry)) (now (marks .entry)) (now (marks .exit)) ⌝ }
+{
+    let a = context::find(m, l, 1, number);
+    let Found::At(b) = a else {
+        return;
+    };
+    marks[b] = 1;
+}
+
+// The listed blocks are marked.
+fn mark_listed(m: &[u32], l: Layout, rec: &[u8], marks: &mut [u8])
+    requires { ⌜ SoundStore l (now m) ⌝ }
+    requires { ⌜ now marks ≡ replicate 1024 0 ⌝ }
+    ensures { λ _. ⌜ Marks l (drop 2 (fields-of (now (rec .entry)))) (now (m .entry)) (now (marks .exit)) ⌝ }
 {
     let n = edit::field_count(rec);
     let mut i = FIRST_LISTED;
     while i < n {
         let x = edit::field(rec, i);
-        if x == number {
-            return true;
-        }
+        mark_one(m, l, x, marks);
         i += 1;
     }
-    false
 }
 
 // The place + 1 of the block of the operation at which the use stands; 0 for no block.
@@ -324,28 +335,29 @@ pub fn block_of(m: &[u32], l: Layout, u: usize) -> usize
     context::home_of(m, l, 4, o)
 }
 
-// Whether the use stands at an operation of a block that is listed.
-fn is_chosen(m: &[u32], l: Layout, u: usize, rec: &[u8]) -> bool
+// Whether the use stands at an operation of a marked block.
+fn is_chosen(m: &[u32], l: Layout, u: usize, marks: &[u8]) -> bool
     requires { ⌜ SoundStore l (now m) ⌝ }
     requires { ⌜ Live (stateOf l (now m)) (usg, u) ⌝ }
-    ensures { λ r. ⌜ Chosen l u (drop 2 (fields-of (now (rec .entry)))) (now (m .entry)) r ⌝ }
+    requires { ⌜ length (now marks) ≡ 1024 ⌝ }
+    ensures { λ r. ⌜ Chosen l u (now (marks .entry)) (now (m .entry)) r ⌝ }
 {
     let b = block_of(m, l, u);
     if b == 0 {
         return false;
     }
-    let x = context::number_of(m, l, 1, b - 1);
-    is_listed(rec, x)
+    marks[b - 1] == 1
 }
 
-// The use moves to the set `e`, if it stands at an operation of a block that is listed.
-fn retarget_one(m: &mut [u32], l: Layout, e: usize, u: usize, rec: &[u8])
+// The use moves to the set `e`, if it stands at an operation of a marked block.
+fn retarget_one(m: &mut [u32], l: Layout, e: usize, u: usize, marks: &[u8])
     requires { ⌜ SoundStore l (now m) ⌝ }
     requires { ⌜ e < ncOf l useSets ⌝ }
     requires { ⌜ CanMove (stateOf l (now m)) u (con l useSets e) ⌝ }
-    ensures { λ _. ⌜ RetargetedOne l e u (drop 2 (fields-of (now (rec .entry)))) (now (m .entry)) (now (m .exit)) ⌝ }
+    requires { ⌜ length (now marks) ≡ 1024 ⌝ }
+    ensures { λ _. ⌜ RetargetedOne l e u (now (marks .entry)) (now (m .entry)) (now (m .exit)) ⌝ }
 {
-    let c = is_chosen(m, l, u, rec);
+    let c = is_chosen(m, l, u, marks);
     if !c {
         return;
     }
@@ -353,16 +365,19 @@ fn retarget_one(m: &mut [u32], l: Layout, e: usize, u: usize, rec: &[u8])
 }
 
 // The uses in the set `d` at operations of listed blocks move to the set `e`.
+// Each listed number is looked up once; a byte for each of the 1,024 block places that a store may have tells which blocks are listed.
 fn retarget_listed(m: &mut [u32], l: Layout, d: usize, e: usize, rec: &[u8])
     requires { ⌜ SoundStore l (now m) ⌝ }
     requires { ⌜ Between l (now m) successor d e ⌝ }
     requires { ⌜ d ≢ e ⌝ }
     ensures { λ _. ⌜ RetargetedAll l d e (drop 2 (fields-of (now (rec .entry)))) (now (m .entry)) (now (m .exit)) ⌝ }
 {
+    let mut marks = [0u8; 1024];
+    mark_listed(m, l, rec, &mut marks);
     let mut k = context::first_of(m, l, 1, d);
     while k != 0 {
         let n = context::next_of(m, l, 1, k - 1);
-        retarget_one(m, l, e, k - 1, rec);
+        retarget_one(m, l, e, k - 1, &marks);
         k = n;
     }
 }

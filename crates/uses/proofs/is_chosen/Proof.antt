@@ -1,6 +1,8 @@
+use mathlib.Core.Path.{refl}
+use native.Mathlib.Omega.{arith}
+use Prim.Native.Nat.{_-_}
 use borrow.Author.Needs.{needs}
-use lib.ListN.{drop}
-use Rattle.edit.specs.Taken.{fields-of}
+use Rattle.uses.proofs.Marking.{block<}
 use Rattle.uses.proofs.Choosing.{in-none, in-block, block-live}
 use Rattle.uses.proofs.is_chosen.Statement.{statement}
 use Rattle.uses.proofs.is_chosen.Tie as tie
@@ -11,23 +13,21 @@ block-of-requires c κs = search needs
 returns : tie.Need-returns
 returns c =
     let s = c .before .before .before .before in
-    in-none (s .args .u) (c .before .block-of .result) (c .before .block-of .ensures) (drop 2 (fields-of (s .args .rec .now))) (c .if1 .taken)
+    in-none (s .args .u) (c .before .block-of .result) (c .before .block-of .ensures) (s .args .marks .now) (c .if1 .taken)
 
-sub-number-of : tie.Need-sub-number-of
-sub-number-of c = search needs
+sub-result : tie.Need-sub-result
+sub-result c = search needs
 
-number-of-requires : tie.Need-number-of-requires
-number-of-requires c κs =
-    let s = c .before .before .before .before in
-    (s .pre .0 .well, block-live (s .args .u) (c .before .block-of .result) (c .before .block-of .ensures) (s .pre .0) (c .if1 .left))
-
-is-listed-requires : tie.Need-is-listed-requires
-is-listed-requires c κs = search needs
+shared-slice-read-result : tie.Need-shared-slice-read-result
+shared-slice-read-result c =
+    let s = c .before .before .before .before .before in
+    let r = c .before .before .block-of .result in
+    omega (arith, s .pre .1 .1, block< (s .pre .0) (r - 1) (block-live (s .args .u) r (c .before .before .block-of .ensures) (s .pre .0) (c .before .if1 .left)))
 
 returns-2 : tie.Need-returns-2
 returns-2 c =
-    let s = c .before .before .before .before .before .before in
-    in-block (s .args .u) (c .before .before .before .block-of .result) (c .before .before .before .block-of .ensures) (drop 2 (fields-of (s .args .rec .now))) (c .before .before .if1 .left) (c .before .number-of .result) (c .before .number-of .ensures) (c .is-listed .result) (c .is-listed .ensures)
+    let s = c .before .before .before .before .before in
+    in-block (s .args .u) (c .before .before .block-of .result) (c .before .before .block-of .ensures) (s .args .marks .now) (c .before .if1 .left) _ refl
 
 pub is-chosen-spec : {M : Type 1} → statement M
 is-chosen-spec =
@@ -35,7 +35,6 @@ is-chosen-spec =
     (tie.spec
     block-of-requires
     returns
-    sub-number-of
-    number-of-requires
-    is-listed-requires
+    sub-result
+    shared-slice-read-result
     returns-2)

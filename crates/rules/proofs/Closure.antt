@@ -1,6 +1,6 @@
 -- What every accepted edit keeps, of a state and the list of the accepted edits so far, holds after every list of calls, with the list that
 -- the calls' bytes and answers tell: the one induction of all invariants. Assumes nothing.
-use mathlib.Core.Path.{_≡_, refl, sym, subst}
+use mathlib.Core.Path.{_≡_, refl, sym, ap, _∙_, subst}
 use mathlib.Core.Bool.{Bool, true, false, cond}
 use mathlib.Core.List.{List, [], _∷_}
 use Prim.Native.Nat.{ℕ, zero, suc}
@@ -53,6 +53,12 @@ answered (erase-operation n) s k t = refl
 answered (erase-block n) s k t = refl
 answered (erase-region o i) s k t = refl
 answered (verdict th) s k t = eqb→eq _ 0 ((or-else-zero (first-missing (s .history) (named (verdict th))) (from-state s (verdict th)) t) .1)
+
+pub accepted-reply : (s : State) (e : Edit) → refusal-of s e ≡ 0 → perform s e .0 .refusal ≡ 0
+unfolding perform
+accepted-reply s e z =
+    let t : eqb (refusal-of s e) 0 ≡ true = ap (λ (n : ℕ). eqb n 0) z in
+    ap (λ (b : Bool). cond {A = Reply × State} b (answer e s (accept e s .history), accept e s) (refuse (refusal-of s e), s) .0 .refusal) t ∙ answered e s (accept e s .history) (subst T (sym t) tt)
 
 module _ (P : State → List Edit → Type 0) (keeps : (e : Edit) (s : State) (l : List Edit) → Small e → T (eqb (refusal-of s e) 0) → P s l → P (accept e s) (e ∷ l)) where
   perform-keeps : (s : State) (l : List Edit) (e : Edit) → Small e → P s l → P ((perform s e) .1) (cond (accepted ((perform s e) .0)) (e ∷ l) l)

@@ -15,6 +15,7 @@ use Rattle.edit.specs.declared.Next.the-variants.{Nothing, Broken, Whole}
 use Rattle.edit.specs.declared.Reading.{Reading}
 use Rattle.edit.specs.declared.Reading.the-variants as Reading
 use Rattle.rules.specs.Step.{obey}
+use Rattle.rules.proofs.Closure.{accepted-reply}
 use Rattle.rules.specs.Script.{ended-with, after-reply, turn, run-by, run}
 use Rattle.rules.specs.Script as Rules
 use Rattle.places.specs.Alias.{RState}
@@ -37,7 +38,7 @@ module _ {l : Layout} {m : List ℕ} (S : SoundStore l m) (bytes : List ℕ) (r 
   unfolding read-of obey numbers-of
   obeyed-refused n e s =
       let q : read (kind-of bytes) (fields-of bytes) ≡ refused n = T .same ∙ ap (read-of (fields-of bytes)) e in
-      record { sound = S; reply = ap (λ (x : Read). obey (abs l m) x .0) (sym q); state = ap (λ (x : Read). obey (abs l m) x .1) (sym q); places = settles-same (λ k. refl); rest = refl; scratch = refl }
+      record { sound = S; reply = ap (λ (x : Read). obey (abs l m) x .0) (sym q); state = ap (λ (x : Read). obey (abs l m) x .1) (sym q); places = settles-same (λ k. refl); kept = λ n. refl; rest = refl; scratch = refl }
 
   pub obeyed-asks : (k : ℕ) → r ≡ Reading.Asks k → {m′ s s′ : List ℕ} {a : Answer} → PerformedWith l (edit-of k (fields-of bytes)) m m′ s s′ a → Obeyed l (read (kind-of bytes) (fields-of bytes)) m m′ s s′ a
   unfolding read-of obey
@@ -48,6 +49,7 @@ module _ {l : Layout} {m : List ℕ} (S : SoundStore l m) (bytes : List ℕ) (r 
         reply = P .performed .reply ∙ ap (λ (x : Read). obey (abs l m) x .0) (sym q);
         state = P .performed .state ∙ ap (λ (x : Read). obey (abs l m) x .1) (sym q);
         places = P .performed .places;
+        kept = λ n. P .performed .kept (λ z. n (ap (λ (x : Read). obey (abs l m) x .0 .refusal) q ∙ accepted-reply (abs l m) (edit-of k (fields-of bytes)) z));
         rest = P .performed .rest;
         scratch = P .scratch;
       }
@@ -110,7 +112,7 @@ module _ (l : Layout) (bytes : List ℕ) (at count : ℕ) (m s out : List ℕ) w
         kind = kind-of (record-at bytes at end);
         fields = fields-of (record-at bytes at end);
         cut-off = N .same ∙ ap (cut-of bytes at) e;
-        words = record { sound = O .sound; state = O .state; places = O .places };
+        words = record { sound = O .sound; state = O .state; places = O .places; kept = O .kept };
         room = h;
         lies = N .lies end e;
         sound = O .sound;

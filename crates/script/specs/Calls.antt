@@ -1,6 +1,7 @@
 -- The calls of a store in memory: what a single edit and a script answer, and what every lent buffer holds after them.
 -- Assumes nothing: these are definitions.
 use mathlib.Core.Path.{_≡_}
+use mathlib.Core.Logic.{_≢_}
 use mathlib.Core.List.{List, [], _∷_, _++_}
 use Prim.Native.Nat.{ℕ, zero, suc, _*_, _/_, _≤_, _<_}
 use lib.ListN.{length, drop, replicate}
@@ -73,6 +74,8 @@ pub record Turned (l : Layout) (q : Read) (m m′ : List ℕ) : Type 0 where
   pub sound : SoundStore l m′
   pub state : abs l m′ ≡ obey (abs l m) q .1
   pub places : Settles (stateOf l m) (stateOf l m′)
+  -- a refused record changes nothing
+  pub kept : obey (abs l m) q .0 .refusal ≢ 0 → m′ ≡ m
 
 -- the records of the bytes, as far as there is room for their answers, took the words from m to m′, one after another
 pub data Course (l : Layout) : List ℕ → ℕ → List ℕ → List ℕ → Type 0 where

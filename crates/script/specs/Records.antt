@@ -1,6 +1,7 @@
 -- One record of a script, and the records from there on. What `Step` stands for: the rules' turn, whatever goes on after it.
 -- Assumes nothing: these are definitions.
 use mathlib.Core.Path.{_≡_}
+use mathlib.Core.Logic.{_≢_}
 use mathlib.Core.List.{List, [], _∷_, _++_}
 use Prim.Native.Nat.{ℕ, suc, _-_, _*_, _/_, _≤_, _<_}
 use lib.ListN.{length, drop}
@@ -27,6 +28,7 @@ pub record Obeyed (l : Layout) (q : Read) (m m′ s s′ : List ℕ) (r : Answer
   pub reply : numbers-of r ≡ obey (abs l m) q .0
   pub state : abs l m′ ≡ obey (abs l m) q .1
   pub places : Settles (stateOf l m) (stateOf l m′)
+  pub kept : obey (abs l m) q .0 .refusal ≢ 0 → m′ ≡ m
   pub rest : part l m′ 14 ≡ part l m 14
   pub scratch : s′ ≡ s
 

@@ -1,5 +1,5 @@
 // Doubly-linked lists over numbers. Ported from src/linked_list.rs of pliron 0.20.0 (Apache-2.0): its functions by name and in its
-// order, then `insert_at`, `init` and `check_links`. Where pliron's functions panic, these require.
+// order. `nth`, `count`, `get_home`, `insert_at`, `init` and `check_links` are added. Where pliron's functions panic, these require.
 //
 // All is in one lent slice `s` of 2 * nc + 3 * nn numbers: for nc containers the heads, then the tails; for nn nodes the nexts,
 // then the prevs, then the containers. A stored 0 means none, and k + 1 means k.

@@ -129,7 +129,7 @@ fn refusal_in(r: Uses) -> u32
     }
 }
 
-// The same, handed back as the filled front part of `out`; `refusal` gets the refusal or 0, and a refusal hands back an empty part.
+// The same, but what is returned is the front of `out` that was filled. `refusal` is set to the refusal, with nothing in front, or to 0.
 fn front_uses<'a>(
     store: &[u32],
     kind: usize,

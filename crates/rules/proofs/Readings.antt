@@ -233,7 +233,7 @@ quiet-accept (erase-block n) s y c l k = absurd y
 quiet-accept (erase-region o i) s y c l k = absurd y
 quiet-accept (verdict t) s y c l k = absurd y
 
--- in every sound state, such an edit, accepted or refused, leaves the reply of every verdict request put next what it would have been
+-- put to a sound state, such an edit changes no verdict: asked for next, each has the reply that it would have had without the edit
 pub verdicts-stay : (e : Edit) (s : State) → Reading e → Sound s → (t : Thing) → (perform ((perform s e) .1) (verdict t)) .0 ≡ (perform s (verdict t)) .0
 verdicts-stay e s y w t = go (eqb (refusal-of s e) 0) refl
   where

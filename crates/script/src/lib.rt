@@ -13,7 +13,7 @@ ghost use Rattle.edits.specs.Scratch.{Scratch};
 ghost use Rattle.script.specs.Calls.{AnsweredWith, Edited, Scripted};
 ghost use Rattle.script.specs.Records.{Obeyed, Stepped, RanWith};
 
-// What a script returns: 0, or the 6 or 22 that ended it, and how many answers it wrote.
+// How a script ended: `code` is 6 or 22 where that stopped it, and else 0; `count` answers were written.
 pub struct Ran {
     pub code: u32,
     pub count: usize,
@@ -175,8 +175,7 @@ pub fn edit(store: &mut [u32], scratch: &mut [u32], bytes: &[u8]) -> Answer
 }
 
 // A script, put to whatever the buffer holds: 6, then 22 for the scratch, once; then its records, each answered in three
-// words while there is room. It returns 0, or the 6 or 22 that ended it, and its count of answers. The scratch is all zeros
-// after it.
+// words while there is room. How it ended is returned. The scratch is all zeros after it.
 pub fn script(store: &mut [u32], scratch: &mut [u32], script: &[u8], answers: &mut [u32]) -> Ran
     ensures { λ r. ⌜ Scripted (now (script .entry)) (now (store .entry)) (now (store .exit)) (now (scratch .entry)) (now (scratch .exit)) (now (answers .entry)) (now (answers .exit)) r ⌝ }
 {

@@ -1,4 +1,4 @@
--- The functions on lists that every crate shares: insertion, removal, index, count, sum; updates of functions; rising orders.
+-- The functions on lists that several crates share: insertion, removal, index, count, sum; updates of functions; rising orders.
 -- Assumes nothing: these are definitions.
 use mathlib.Core.Logic.{ite}
 use mathlib.Core.Bool.{Bool, true, false}

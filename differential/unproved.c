@@ -13,7 +13,7 @@ uint32_t inner_start(struct slice *, uint32_t, uint32_t, uint32_t, uint32_t, uin
 uint32_t inner_edit(struct slice *, struct slice *, struct slice *, struct slice *);
 uint32_t inner_script(struct slice *, struct slice *, struct slice *, struct slice *, uint64_t *);
 bool inner_check(struct slice *);
-size_t inner_listing(struct slice *, struct slice *, struct slice *);
+uint32_t inner_listing(struct slice *, struct slice *, struct slice *, uint64_t *);
 uint32_t inner_value_uses(struct slice *, uint32_t, struct slice *, uint64_t *);
 uint32_t inner_block_uses(struct slice *, uint32_t, struct slice *, uint64_t *);
 
@@ -28,8 +28,8 @@ uint32_t recipe_script(uint32_t *s, size_t n, uint32_t *t, size_t tn, const uint
     return inner_script(S(s, n), S(t, tn), S(x, xn), S(a, an), count);
 }
 bool recipe_check(const uint32_t *s, size_t n) { return inner_check(S(s, n)); }
-size_t recipe_listing(const uint32_t *s, size_t n, const uint32_t *a, size_t an, uint8_t *out, size_t on) {
-    return inner_listing(S(s, n), S(a, an), S(out, on));
+uint32_t recipe_listing(const uint32_t *s, size_t n, const uint32_t *a, size_t an, uint8_t *out, size_t on, uint64_t *length) {
+    return inner_listing(S(s, n), S(a, an), S(out, on), length);
 }
 uint32_t recipe_value_uses(const uint32_t *s, size_t n, uint32_t x, uint32_t *u, size_t un, uint64_t *count) {
     return inner_value_uses(S(s, n), x, S(u, un), count);

@@ -13,7 +13,8 @@ size_t recipe_words(uint32_t ops, uint32_t blocks, uint32_t regions, uint32_t va
 /* Starts an empty store: 0, or 5 where a capacity is 0 or over its limit, or the buffer is too short. */
 uint32_t recipe_start(uint32_t *store, size_t store_len, uint32_t ops, uint32_t blocks, uint32_t regions, uint32_t values, uint32_t uses);
 
-/* One edit record. `answer` gets its three numbers (refusal, A, B); the refusal is returned too. 22 if `answer` has under 3 words. */
+/* One edit record: 0 or the refusal. `answer` gets the three numbers (refusal, A, B), and 6, the store is not sound, writes none. 22 if `answer` has under
+   3 words, before anything is looked at; it is kept then. `scratch` is all zeros after every call. */
 uint32_t recipe_edit(uint32_t *store, size_t store_len, uint32_t *scratch, size_t scratch_len,
                      const uint8_t *record, size_t record_len, uint32_t *answer, size_t answer_len);
 
@@ -24,8 +25,10 @@ uint32_t recipe_script(uint32_t *store, size_t store_len, uint32_t *scratch, siz
 /* Whether a buffer of any contents is a sound store. */
 bool recipe_check(const uint32_t *store, size_t store_len);
 
-/* The listing of the answers and of the store, as far as `out` has room: its length; 0 if the store is not sound. */
-size_t recipe_listing(const uint32_t *store, size_t store_len, const uint32_t *answers, size_t answers_len, uint8_t *out, size_t out_len);
+/* The listing of the answers and of the store, in front of `out`; `length` gets how many bytes were written. It ends where `out` ends: a `length` below
+   `out_len` says that it is whole, one equal to `out_len` that it may have been cut. 6 if the store is not sound, 22 if there are over 4,294,967,295 answers;
+   a refusal keeps `out` and sets `length` to 0. */
+uint32_t recipe_listing(const uint32_t *store, size_t store_len, const uint32_t *answers, size_t answers_len, uint8_t *out, size_t out_len, uint64_t *length);
 
 /* The numbers of the uses of a value, rising, in front of `uses`; `count` gets how many. 6, 10 if no such value is live, 22 if `uses` is too short;
    a refusal keeps `uses` and sets `count` to 0. */

@@ -66,13 +66,13 @@ static void read_uses(const uint32_t *store, size_t words) {
 static void run(const uint8_t *bytes, size_t length, const uint8_t *expected, size_t expected_length) {
     size_t words = recipe_words(OPS, BLOCKS, REGIONS, VALUES, USES);
     struct lent script = lend_copy(bytes, length), store = lend(4 * words), scratch = lend(4 * OPS), many = lend(12 * ANSWERS);
-    uint64_t count, again;
+    uint64_t count, again, written;
     expect(recipe_start(store.at, words, OPS, BLOCKS, REGIONS, VALUES, USES) == 0, "the store starts");
     expect(recipe_script(store.at, words, scratch.at, OPS, script.at, length, many.at, 3 * ANSWERS, &count) == 0, "the script ends");
     struct lent answers = lend(12 * count), out = lend(expected_length);
     expect(recipe_start(store.at, words, OPS, BLOCKS, REGIONS, VALUES, USES) == 0, "the store starts again");
     expect(recipe_script(store.at, words, scratch.at, OPS, script.at, length, answers.at, 3 * count, &again) == 0 && again == count, "answers of exact length are enough");
-    expect(recipe_listing(store.at, words, answers.at, 3 * count, out.at, expected_length) == expected_length, "the listing has its length");
+    expect(recipe_listing(store.at, words, answers.at, 3 * count, out.at, expected_length, &written) == 0 && written == expected_length, "the listing has its length");
     expect(memcmp(out.at, expected, expected_length) == 0, "the listing is the recorded one");
     expect(recipe_check(store.at, words), "the store is sound");
     take_back(script), take_back(store), take_back(scratch), take_back(many), take_back(answers), take_back(out);
@@ -94,7 +94,8 @@ static void run_edits(const uint8_t *bytes, size_t length, const uint8_t *expect
         take_back(record);
         at += taken;
     }
-    size_t written = recipe_listing(store.at, words, answers, 3 * n, out, OUT);
+    uint64_t written;
+    expect(recipe_listing(store.at, words, answers, 3 * n, out, OUT, &written) == 0, "the store is listed");
     expect(written == expected_length && memcmp(out, expected, written) == 0, "single edits list what was recorded");
     if (length % 64 == 0)
         read_uses(store.at, words);
@@ -109,7 +110,7 @@ static void any_words(const uint32_t *from, size_t words) {
     recipe_check(store.at, words);
     recipe_value_uses(store.at, words, 0, list.at, 1, &count);
     recipe_block_uses(store.at, words, 0, list.at, 1, &count);
-    recipe_listing(store.at, words, answers.at, 3, out.at, 7);
+    recipe_listing(store.at, words, answers.at, 3, out.at, 7, &count);
     recipe_edit(store.at, words, scratch.at, 1, record.at, 8, answers.at, 3);
     recipe_script(store.at, words, scratch.at, 1, record.at, 8, answers.at, 3, &count);
     recipe_start(store.at, words, 1, 1, 1, 1, 1);

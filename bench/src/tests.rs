@@ -48,10 +48,11 @@ fn random_scripts_as_the_store() {
         assert_eq!(code, 0);
         answers.truncate(3 * count as usize);
         let mut out = vec![0; 1 << 20];
-        let length = interface::listing(&store, &answers, &mut out);
+        let (code, length) = interface::listing(&store, &answers, &mut out);
+        assert_eq!(code, 0);
         let (plain, text) = listing(&script, capacities);
         assert!(plain == answers, "seed {seed}: answers differ");
-        assert!(text.as_bytes() == &out[..length], "seed {seed}: listings differ");
+        assert!(text.as_bytes() == &out[..length as usize], "seed {seed}: listings differ");
     }
 }
 

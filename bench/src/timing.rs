@@ -101,7 +101,7 @@ impl Lent {
     /// The first edits, each as a call of its own, all together.
     fn singles(&mut self, edits: &[&[u8]]) -> f64 {
         self.reset();
-        clock(|| edits.iter().for_each(|e| assert_eq!(interface::edit(&mut self.store, &mut self.scratch, e)[0], 0)))
+        clock(|| edits.iter().for_each(|e| assert_eq!(interface::edit(&mut self.store, &mut self.scratch, e, &mut [0; 3]), 0)))
     }
 }
 

@@ -61,7 +61,7 @@ const RULES: [&str; 22] = [
      any other wrong number after it.",
     "A new operation: flags 0 to 3 and at most 64 results, operands, successors and regions. A new block: at most 64 arguments. Replace-some and retarget-some list at most 256 numbers.",
     "A store is started with five capacities: 1 to 4,096 operations, 1,024 blocks, 1,024 regions, 8,192 values and 16,384 uses, in a buffer of at least the words that they add up to.",
-    "Every call on a store checks all of its words first. A buffer that is no sound store is refused and kept as it is. A script checks once, before its first record.",
+    "Every call on a store checks all of its words first. A buffer that is no sound store is refused and kept as it is, and no answer is written. A script checks once, before its first record.",
     "The field holds the birth number of an operation that was born and has not ended.",
     "The field holds the birth number of a block that was born and has not ended.",
     "The field holds the birth number of a region that was born and has not ended.",
@@ -90,7 +90,7 @@ fn given_by(refusal: u32) -> Result<Vec<usize>, &'static str> {
         3 => Err("every kind"),
         5 => Err("the start of a store; no edit"),
         6 => Err("every call that reads or changes a store"),
-        22 => Err("every edit and script (scratch), scripts (answers), the readers of uses (list)"),
+        22 => Err("every edit and script (scratch, answers), the readers of uses (list)"),
         _ => Ok((1..=44).filter(|kind| TESTS[kind - 1].contains(&refusal)).collect()),
     }
 }

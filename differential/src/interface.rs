@@ -1,15 +1,7 @@
-//! The store's library as the Rust crate calls it (`rust/src/raw.rs`), with answers as numbers.
+//! The store's library as the Rust crate calls it (`rust/src/raw.rs`).
 use recipe_store::raw;
 
-pub use raw::{check as is_sound, listing, start, words};
-
-/// One edit: its answer.
-pub fn edit(store: &mut [u32], scratch: &mut [u32], record: &[u8]) -> [u32; 3] {
-    let mut answer = [u32::MAX; 3];
-    let code = raw::edit(store, scratch, record, &mut answer);
-    assert_eq!(code, answer[0]);
-    answer
-}
+pub use raw::{check as is_sound, edit, listing, start, words};
 
 /// A script: 0 or what ended it, and the count of answers written.
 pub fn script(store: &mut [u32], scratch: &mut [u32], script: &[u8], answers: &mut [u32]) -> [u32; 2] {

@@ -60,8 +60,21 @@ impl Lent {
         self.kept_spare()?;
         Ok(out)
     }
+    /// One edit with so many words for its answer: its reply, and those words after it.
+    fn edit_into(&mut self, record: &[u8], scratch: usize, room: usize) -> Result<(u32, Vec<u32>), String> {
+        let mut answer = vec![KEPT; room];
+        let code = self.with_scratch(scratch, |s, t| interface::edit(s, t, record, &mut answer))?;
+        Ok((code, answer))
+    }
+    /// Its answer; 6 writes none.
     fn edit(&mut self, record: &[u8], scratch: usize) -> Result<[u32; 3], String> {
-        self.with_scratch(scratch, |s, t| interface::edit(s, t, record))
+        let (code, answer) = self.edit_into(record, scratch, 3)?;
+        if code == 6 {
+            expect(answer == [KEPT; 3], "an answer is written for 6")?;
+            return Ok([6, 0, 0]);
+        }
+        expect_or(code == answer[0], || format!("an edit returns {code} and writes {answer:?}"))?;
+        Ok([code, answer[1], answer[2]])
     }
     /// The answers, and what ended the script. Answer words past the last are kept.
     fn script(&mut self, script: &[u8], scratch: usize, answer_words: usize) -> Result<(Vec<[u32; 3]>, u32), String> {
@@ -74,10 +87,12 @@ impl Lent {
     }
     fn listing(&self, answers: &[[u32; 3]], longest: usize) -> Result<String, String> {
         let mut out = vec![0xA5; longest + 64];
-        let n = interface::listing(&self.words, &answers.concat(), &mut out);
-        expect(n <= out.len(), "the listing is longer than its buffer")?;
-        expect(out[n..].iter().all(|&b| b == 0xA5), "bytes past the listing were written")?;
-        String::from_utf8(out[..n].to_vec()).map_err(|_| "the store: the listing is no text".into())
+        let (code, length) = interface::listing(&self.words, &answers.concat(), &mut out);
+        expect_or(code == 0, || format!("the listing is refused, {code}"))?;
+        expect(length <= out.len() as u64, "the listing is longer than its buffer")?;
+        let (written, rest) = out.split_at(length as usize);
+        expect(rest.iter().all(|&b| b == 0xA5), "bytes past the listing were written")?;
+        String::from_utf8(written.to_vec()).map_err(|_| "the store: the listing is no text".into())
     }
 }
 
@@ -236,6 +251,9 @@ fn short_buffers(script: &[u8], capacities: Capacities, second: &Expected, room:
     if let Some(record) = pieces(script).first() {
         let wanted = reading::start(capacities, u64::MAX).unwrap().edit(record, short);
         expect(lent.edit(record, short)? == wanted, "a single edit with a short scratch gets another answer")?;
+        let room = rng.below(3);
+        let told = lent.edit_into(record, scratch, room)?;
+        expect_or(told == (22, vec![KEPT; room]), || format!("a single edit with room for {room} words gets {told:?}"))?;
     }
     expect(lent.words[..lent.sum] == cut_short[..lent.sum], "a call refused by 22 has changed a word")
 }
@@ -373,6 +391,9 @@ fn damaged(rng: &mut Rng, sound_met: &mut u64) -> Outcome {
     expect(lent.script(&record, 0, 12)? == (vec![], 6), "a script on an unsound store does not get 6")?;
     expect(lent.script(&[], 4096, 12)? == (vec![], 6), "an empty script on an unsound store does not get 6")?;
     expect(lent.words == before, "a call refused by 6 has changed a word")?;
+    let mut out = [0xA5; 64];
+    let told = interface::listing(&lent.words, &[], &mut out);
+    expect_or(told == (6, 0) && out == [0xA5; 64], || format!("the listing of an unsound store gives {told:?}"))?;
     reads(&lent.words, rng.percent(50), rng.below(3) as u32, rng.below(3), Err(6))
 }
 

@@ -17,7 +17,7 @@ static void nothing_lent(void) {
     show("check of no words", recipe_check(NULL, 0));
     show("uses of a value in no words", recipe_value_uses(NULL, 0, 0, NULL, 0, &count));
     show("uses of a block in no words", recipe_block_uses(NULL, 0, 0, NULL, 0, &count));
-    show("length of a listing of no words", (uint32_t)recipe_listing(NULL, 0, NULL, 0, NULL, 0));
+    show("listing of no words", recipe_listing(NULL, 0, NULL, 0, NULL, 0, &count));
 }
 
 static void damaged(void) {

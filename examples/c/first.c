@@ -45,10 +45,11 @@ int main(int argc, char **argv) {
     if (!store || recipe_start(store, words, OPS, BLOCKS, REGIONS, VALUES, USES))
         return 1;
 
-    uint64_t count;
+    uint64_t count, written;
     uint32_t ended = recipe_script(store, words, scratch, OPS, script, length, answers, 3 * ANSWERS, &count);
-    size_t written = recipe_listing(store, words, answers, 3 * (size_t)count, out, OUT);
-    fwrite(out, 1, written, stdout);
+    if (recipe_listing(store, words, answers, 3 * (size_t)count, out, OUT, &written))
+        return 1;
+    fwrite(out, 1, (size_t)written, stdout);
 
     print_uses(store, words, 0);
     print_uses(store, words, 1);

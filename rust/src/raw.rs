@@ -29,7 +29,15 @@ mod library {
         pub fn recipe_check(store: *const u32, store_len: usize) -> bool;
         pub fn recipe_value_uses(store: *const u32, store_len: usize, value: u32, uses: *mut u32, uses_len: usize, count: *mut u64) -> u32;
         pub fn recipe_block_uses(store: *const u32, store_len: usize, block: u32, uses: *mut u32, uses_len: usize, count: *mut u64) -> u32;
-        pub fn recipe_listing(store: *const u32, store_len: usize, answers: *const u32, answers_len: usize, out: *mut u8, out_len: usize) -> usize;
+        pub fn recipe_listing(
+            store: *const u32,
+            store_len: usize,
+            answers: *const u32,
+            answers_len: usize,
+            out: *mut u8,
+            out_len: usize,
+            length: *mut u64,
+        ) -> u32;
     }
 }
 
@@ -50,7 +58,7 @@ pub fn start(store: &mut [u32], [ops, blocks, regions, values, uses]: [u32; 5]) 
     unsafe { library::recipe_start(store.as_mut_ptr(), store.len(), ops, blocks, regions, values, uses) }
 }
 
-/// One edit record: its refusal, which stands in `answer` too; 22 where `answer` has under three words.
+/// One edit record: its refusal or 0, which stands in `answer` too. For 6, and for 22 where `answer` has under three words, `answer` is kept.
 pub fn edit(store: &mut [u32], scratch: &mut [u32], record: &[u8], answer: &mut [u32]) -> u32 {
     let (scratch_at, answer_at) = (scratch.as_mut_ptr(), answer.as_mut_ptr());
     // SAFETY: each pointer has the length of its slice; the slices that are written are borrowed mutably, so no two overlap.
@@ -90,10 +98,12 @@ pub fn block_uses(store: &[u32], block: u32, uses: &mut [u32]) -> (u32, u64) {
     (code, count)
 }
 
-/// The listing of the answers and the store, as far as `out` has room: its length, or 0 where the store is not sound.
-pub fn listing(store: &[u32], answers: &[u32], out: &mut [u8]) -> usize {
+/// The listing of the answers and the store, as far as `out` has room: 0, 6 or 22, and how many bytes the library wrote.
+pub fn listing(store: &[u32], answers: &[u32], out: &mut [u8]) -> (u32, u64) {
+    let mut length = NOT_WRITTEN;
     // SAFETY: each pointer has the length of its slice; `out` is borrowed mutably and so apart from the others.
-    unsafe { library::recipe_listing(store.as_ptr(), store.len(), answers.as_ptr(), answers.len(), out.as_mut_ptr(), out.len()) }
+    let code = unsafe { library::recipe_listing(store.as_ptr(), store.len(), answers.as_ptr(), answers.len(), out.as_mut_ptr(), out.len(), &mut length) };
+    (code, length)
 }
 
 /// The words of the answers, to be written.

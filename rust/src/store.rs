@@ -126,11 +126,12 @@ impl<'a> View<'a> {
     /// The listing of answers and of the store, in the front of `out`. 22 where `out` is not longer than the listing:
     /// [`Capacities::listing_bytes`] is always enough.
     pub fn listing<'b>(&self, answers: &[Answer], out: &'b mut [u8]) -> Result<&'b str, Refusal> {
-        let length = raw::listing(self.words, raw::answer_words(answers), out);
-        if length >= out.len() {
+        let (code, length) = raw::listing(self.words, raw::answer_words(answers), out);
+        Refusal::of_reply(code)?;
+        if length >= out.len() as u64 {
             return Err(Refusal::BufferShort);
         }
-        core::str::from_utf8(&out[..length]).map_err(|_| Refusal::NotSound)
+        Ok(core::str::from_utf8(&out[..length as usize]).expect("a listing is ASCII"))
     }
 
     // The five capacities stand in front of a store (docs/ARCHITECTURE.md, "The buffer").

@@ -20,19 +20,39 @@ fn small_store() -> Vec<u32> {
     words
 }
 
-/// Every reading and changing call on words that are no sound store: 6 (or 5), and no word is changed.
+/// A scratch full of old words is lent; it must be all zeros after the call.
+fn with_scratch<T>(length: usize, call: impl FnOnce(&mut [u32]) -> T) -> T {
+    let mut scratch = vec![OLD; length];
+    let reply = call(&mut scratch);
+    assert!(scratch.iter().all(|&word| word == 0));
+    reply
+}
+
+fn edit(store: &mut [u32], scratch: usize, record: &[u8], answer: &mut [u32]) -> u32 {
+    with_scratch(scratch, |scratch| raw::edit(store, scratch, record, answer))
+}
+
+fn script(store: &mut [u32], scratch: usize, script: &[u8], answers: &mut [u32]) -> (u32, u64) {
+    with_scratch(scratch, |scratch| raw::script(store, scratch, script, answers))
+}
+
+/// Every reading and changing call on words that are no sound store: 6, and no word is changed. What comes before 6 comes first.
 fn refused_with_6(words: &[u32]) {
     let mut store = words.to_vec();
-    let (mut scratch, mut answers, mut uses, mut out) = ([OLD; 8], [OLD; 7], [OLD; 9], [0xa5; 64]);
-    assert_eq!(raw::edit(&mut store, &mut scratch, &NEW_BLOCK, &mut answers), 6);
-    assert_eq!(answers, [6, 0, 0, OLD, OLD, OLD, OLD]);
-    let mut answers = [OLD; 7];
-    assert_eq!(raw::script(&mut store, &mut scratch, &NEW_BLOCK, &mut answers), (6, 0));
+    let (mut answers, mut uses, mut out) = ([OLD; 7], [OLD; 9], [0xa5; 64]);
+    assert_eq!(edit(&mut store, 8, &NEW_BLOCK, &mut answers), 6);
+    assert_eq!(edit(&mut store, 0, &NEW_BLOCK, &mut answers[..3]), 6);
+    assert_eq!(edit(&mut store, 8, &NEW_BLOCK, &mut answers[..2]), 22);
+    assert_eq!(script(&mut store, 8, &NEW_BLOCK, &mut answers), (6, 0));
     assert_eq!(raw::value_uses(&store, 0, &mut uses), (6, 0));
     assert_eq!(raw::block_uses(&store, 0, &mut uses), (6, 0));
-    assert_eq!(raw::listing(&store, &[], &mut out), 0);
+    assert_eq!(raw::listing(&store, &answers, &mut out), (6, 0));
+    assert_eq!(raw::listing(&store, &[], &mut []), (6, 0));
     assert!(store == words && answers == [OLD; 7] && uses == [OLD; 9] && out == [0xa5; 64]);
-    assert_eq!(Store::open(&mut store, &mut scratch).unwrap_err(), Refusal::NotSound);
+    assert_eq!(edit(&mut store, 8, &NEW_BLOCK[..7], &mut answers), 1);
+    assert_eq!(answers, [1, 0, 0, OLD, OLD, OLD, OLD]);
+    assert_eq!(Store::open(&mut store, &mut [0; 8]).unwrap_err(), Refusal::NotSound);
+    assert_eq!(store, words);
 }
 
 #[test]
@@ -118,38 +138,44 @@ fn scratch_of_every_length() {
     for length in 0..=5 {
         let mut words = small_store();
         let before = words.clone();
-        let (mut scratch, mut answers) = (vec![OLD; length], [OLD; 3]);
+        let mut answers = [OLD; 3];
         let expected = if length < 3 { 22 } else { 0 };
         let unlink = [8, 0, 25, 0, 1, 0, 0, 0];
-        assert_eq!(raw::edit(&mut words, &mut scratch, &unlink, &mut answers), expected);
+        assert_eq!(edit(&mut words, length, &unlink, &mut answers), expected);
+        assert_eq!(answers, [expected, 0, 0]);
         assert_eq!(words == before, expected == 22);
-        let mut words = before.clone();
-        assert_eq!(raw::script(&mut words, &mut scratch, &unlink, &mut answers), (expected, u64::from(expected == 0)));
+        let (mut words, mut answers) = (before.clone(), [OLD; 3]);
+        assert_eq!(script(&mut words, length, &unlink, &mut answers), (expected, u64::from(expected == 0)));
+        assert_eq!(answers, if expected == 0 { [0; 3] } else { [OLD; 3] });
         assert_eq!(words == before, expected == 22);
-        assert_eq!(Store::open(&mut words, &mut scratch).err(), Refusal::from_number(expected));
+        assert_eq!(Store::open(&mut words, &mut vec![0; length]).err(), Refusal::from_number(expected));
     }
 }
 
 #[test]
 fn answers_of_every_length() {
-    let script = [[8, 0, 36, 0, 1, 0, 0, 0], [8, 0, 99, 0, 0, 0, 0, 0]].concat();
+    let records = [[8, 0, 36, 0, 1, 0, 0, 0], [8, 0, 99, 0, 0, 0, 0, 0]].concat();
     for length in 0..=8 {
         let mut words = small_store();
         let before = words.clone();
-        let (mut scratch, mut answers) = ([0; 3], vec![OLD; length]);
+        let mut answers = vec![OLD; length];
         let written = (length / 3).min(2);
-        assert_eq!(raw::script(&mut words, &mut scratch, &script, &mut answers), (if written < 2 { 22 } else { 0 }, written as u64));
+        assert_eq!(script(&mut words, 3, &records, &mut answers), (if written < 2 { 22 } else { 0 }, written as u64));
         assert_eq!(answers[..3 * written], [0, 0, 3, 2, 0, 0][..3 * written]);
         assert!(answers[3 * written..].iter().all(|&word| word == OLD));
         assert_eq!(words == before, written == 0);
         let mut words = before.clone();
         let mut answer = vec![OLD; length];
-        assert_eq!(raw::edit(&mut words, &mut scratch, &script[..8], &mut answer), if length < 3 { 22 } else { 0 });
+        assert_eq!(edit(&mut words, 3, &records[..8], &mut answer), if length < 3 { 22 } else { 0 });
         assert_eq!(words == before, length < 3);
+        let written = if length < 3 { 0 } else { 3 };
+        assert_eq!(answer[..written], [0, 0, 3][..written]);
+        assert!(answer[written..].iter().all(|&word| word == OLD));
         // A listing shows whole answers alone.
         let mut out = [0; 512];
-        let lines = raw::listing(&words, &vec![0; length], &mut out);
-        assert_eq!(out[..lines].windows(5).filter(|part| *part == b"edit ").count(), length / 3);
+        let (code, lines) = raw::listing(&words, &vec![0; length], &mut out);
+        assert_eq!(code, 0);
+        assert_eq!(out[..lines as usize].windows(5).filter(|part| *part == b"edit ").count(), length / 3);
     }
 }
 
@@ -161,7 +187,7 @@ fn records_of_every_length() {
         for byte in [0, 1, 4, 255] {
             let record = vec![byte; length];
             let mut answer = [OLD; 3];
-            let code = raw::edit(&mut words, &mut [0; 3], &record, &mut answer);
+            let code = edit(&mut words, 3, &record, &mut answer);
             assert!((1..=4).contains(&code), "{code} for {length} bytes of {byte}");
             assert!(answer == [code, 0, 0] && words == before);
         }
@@ -180,7 +206,7 @@ fn empty_slices() {
     assert_eq!(raw::script(&mut words, &mut [0; 3], &[], &mut []), (0, 0));
     assert_eq!(raw::value_uses(&words, 0, &mut []), (22, 0));
     assert_eq!(raw::value_uses(&words, 1, &mut []), (0, 0));
-    assert_eq!(raw::listing(&words, &[], &mut []), 0);
+    assert_eq!(raw::listing(&words, &[], &mut []), (0, 0));
 }
 
 #[test]
@@ -204,7 +230,7 @@ fn listings_of_every_length() {
     let whole = view.listing(&[], &mut out).unwrap().to_string();
     for length in 0..=whole.len() + 1 {
         let mut out = vec![0xa5; length + 3];
-        assert_eq!(raw::listing(&words, &[], &mut out[..length]), length.min(whole.len()));
+        assert_eq!(raw::listing(&words, &[], &mut out[..length]), (0, length.min(whole.len()) as u64));
         assert_eq!(out[..length.min(whole.len())], whole.as_bytes()[..length.min(whole.len())]);
         assert!(out[length..].iter().all(|&byte| byte == 0xa5));
         assert_eq!(view.listing(&[], &mut out[..length]).is_ok(), length > whole.len());
@@ -253,15 +279,16 @@ fn the_longest_listing_fits_and_numbers_are_spent() {
 }
 
 /// The words of a sound store after damage: either they are refused and kept, or they are another sound store, on which edits go on.
-fn survives(words: &[u32], script: &[u8]) {
+fn survives(words: &[u32], records: &[u8]) {
     if !raw::check(words) {
         return refused_with_6(words);
     }
-    let (mut store, mut scratch, mut answers) = (words.to_vec(), [OLD; 3], [OLD; 36]);
-    let (code, count) = raw::script(&mut store, &mut scratch, script, &mut answers);
-    assert!(code == 0 && count == 12 && scratch == [0; 3] && raw::check(&store));
+    let (mut store, mut answers) = (words.to_vec(), [OLD; 36]);
+    assert_eq!(script(&mut store, 3, records, &mut answers), (0, 12));
+    assert!(raw::check(&store));
     let mut out = vec![0; SMALL.listing_bytes(12)];
-    assert!(raw::listing(&store, &answers, &mut out) > 0);
+    let (code, length) = raw::listing(&store, &answers, &mut out);
+    assert!(code == 0 && length > 0);
 }
 
 fn twelve_edits(bytes: &mut [u8]) -> usize {

@@ -30,8 +30,9 @@ fn listing_of_edits(script: &[u8]) -> (String, Vec<u32>) {
         answers.extend(answer);
     }
     let mut out = vec![0; PROGRAM.listing_bytes(answers.len() / 3)];
-    let length = raw::listing(&words, &answers, &mut out);
-    (String::from_utf8(out[..length].to_vec()).unwrap(), words)
+    let (code, length) = raw::listing(&words, &answers, &mut out);
+    assert_eq!(code, 0);
+    (String::from_utf8(out[..length as usize].to_vec()).unwrap(), words)
 }
 
 #[test]

@@ -3,9 +3,9 @@ use mathlib.Core.Path.{_≡_, refl, ap, _∙_, subst}
 use mathlib.Core.List.{List}
 use Prim.Native.Nat.{ℕ, _/_, _≤_, _<_}
 use native.Mathlib.Omega.{arith}
-use lib.ListN.{length, getD}
+use lib.ListN.{length, replicate}
 use Rattle.edit.specs.Record.{Definition}
-use Rattle.edit.specs.Answer.{Reply, Put, numbers-of}
+use Rattle.edit.specs.Answer.{Put, numbers-of}
 use Rattle.edit.specs.declared.Answer.{Answer}
 use Rattle.rules.specs.Listing.{edit-lines, listing}
 use Rattle.context.specs.declared.Layout.{Layout}
@@ -19,7 +19,7 @@ use Rattle.listing.specs.Lines.{repliesFrom}
 use Rattle.listing.proofs.Writing.{and-then}
 use Rattle.readers.specs.UsesOf.{refusalIn, countIn, ToldOf}
 use Rattle.readers.specs.declared.Uses.{Uses}
-use Rattle.ffi.specs.Called.{EditCalled, Listed, UsesCalled, most-answers}
+use Rattle.ffi.specs.Called.{ToldAnswer, EditCalled, Listed, UsesCalled, most-answers}
 
 -- ---- the start
 
@@ -31,32 +31,42 @@ needed-by {l} {k} {r} e s = subst (λ (j : Layout). WordsNeeded j r) e s
 
 -- ---- one edit
 
-module _ {bytes m s out : List ℕ} where
-  pub no-room : length out < 3 → EditCalled bytes m m s s out out 22
-  no-room h = record { short = λ _. (refl, refl, refl, refl); done = λ k. let z : ⊥ = omega (arith, h, k) in absurd z }
+module _ {a : Answer} {out : List ℕ} {n : ℕ} where
+  pub kept-for-6 : n ≡ numbers-of a .refusal → n ≡ 6 → ToldAnswer a out out n
+  kept-for-6 e h = record { code = e; kept = λ _. refl; put = λ k. absurd (k h) }
 
-  pub edit-answered : {m′ s′ out′ : List ℕ} {a : Answer} → 3 ≤ length out → Edited bytes m m′ s s′ a → Put out out′ 0 (numbers-of a) → EditCalled bytes m m′ s s′ out out′ (getD out′ 0 0)
-  edit-answered {m′} {s′} {out′} {a} h e p =
-      record {
-        short = λ k. let z : ⊥ = omega (arith, h, k) in absurd z;
-        done = λ _. record { answer = a; edited = e; put = p; code = ap (λ (r : Reply). r .refusal) (p .here) };
-      }
+  pub put-else : {out′ : List ℕ} → n ≡ numbers-of a .refusal → (n ≡ 6 → ⊥) → Put out out′ 0 (numbers-of a) → ToldAnswer a out out′ n
+  put-else e h p = record { code = e; kept = λ k. absurd (h k); put = λ _. p }
+
+module _ {bytes m s s′ out : List ℕ} where
+  pub no-room : length out < 3 → s′ ≡ replicate (length s) 0 → EditCalled bytes m m s s′ out out 22
+  no-room h z = record { short = λ _. (refl, refl, z, refl); done = λ k. let f : ⊥ = omega (arith, h, k) in absurd f }
+
+  pub edit-answered : {m′ out′ : List ℕ} {a : Answer} {r : ℕ} → 3 ≤ length out → Edited bytes m m′ s s′ a → ToldAnswer a out out′ r → EditCalled bytes m m′ s s′ out out′ r
+  edit-answered {m′} {out′} {a} {r} h e t = record { short = λ k. let f : ⊥ = omega (arith, h, k) in absurd f; done = λ _. record { answer = a; edited = e; told = t } }
 
 -- ---- the listing
 
 module _ {m answers out : List ℕ} where
-  pub not-sound : (SoundWords m → ⊥) → Listed m answers out out 0
-  not-sound h = record { unsound = λ _. (refl, refl); many = λ _. (refl, refl); sound = λ s. absurd (h s) }
+  pub not-sound : (SoundWords m → ⊥) → Listed m answers out out 0 6
+  not-sound h = record { unsound = λ _. (refl, refl, refl); many = λ s. absurd (h s); code = λ s. absurd (h s); text = λ s. absurd (h s) }
 
-  pub too-many : most-answers < length answers / 3 → Listed m answers out out 0
-  too-many h = record { unsound = λ _. (refl, refl); many = λ _. (refl, refl); sound = λ s k. let z : ⊥ = omega (arith, h, k) in absurd z }
-
-  pub listed : {l : Layout} {out₁ out₂ : List ℕ} {a r : ℕ} → Headed l m → SoundWords m → length answers / 3 ≤ most-answers → Written (edit-lines 0 (repliesFrom answers 0 (length answers / 3))) out 0 out₁ a → Written (listing (abs l m)) out₁ a out₂ r → Listed m answers out out₂ r
-  listed {l} {out₁} {out₂} {a} {r} H S h v w =
+  pub too-many : SoundWords m → most-answers < length answers / 3 → Listed m answers out out 0 22
+  too-many S h =
       record {
         unsound = λ n. absurd (n S);
-        many = λ k. let z : ⊥ = omega (arith, h, k) in absurd z;
-        sound = λ _ _. and-then v (subst (λ (j : Layout). Written (listing (abs j m)) out₁ a out₂ r) (headed H) w);
+        many = λ _ _. (refl, refl, refl);
+        code = λ _ k. let f : ⊥ = omega (arith, h, k) in absurd f;
+        text = λ _ k. let f : ⊥ = omega (arith, h, k) in absurd f;
+      }
+
+  pub listed : {l : Layout} {out₁ out₂ : List ℕ} {a n : ℕ} → Headed l m → SoundWords m → length answers / 3 ≤ most-answers → Written (edit-lines 0 (repliesFrom answers 0 (length answers / 3))) out 0 out₁ a → Written (listing (abs l m)) out₁ a out₂ n → Listed m answers out out₂ n 0
+  listed {l} {out₁} {out₂} {a} {n} H S h v w =
+      record {
+        unsound = λ k. absurd (k S);
+        many = λ _ k. let f : ⊥ = omega (arith, h, k) in absurd f;
+        code = λ _ _. refl;
+        text = λ _ _. and-then v (subst (λ (j : Layout). Written (listing (abs j m)) out₁ a out₂ n) (headed H) w);
       }
 
 -- ---- the uses of a definition

@@ -1,12 +1,16 @@
-// The store for C and Rust: each exported function is one call of a proved one. A slice is a pointer and a count of elements.
+// The store for C and Rust: each exported function is a thin one over the crates below. A slice is a pointer and a count of elements.
 use context::Layout;
+use edit::Answer;
 use readers::Uses;
 ghost use mathlib.Core.Path.{_≡_};
+ghost use Prim.Native.Nat.{_≤_};
+ghost use lib.ListN.{length};
 ghost use Rattle.seqs.specs.Seqs.{Says};
+ghost use Rattle.edit.specs.Answer.{numbers-of};
 ghost use Rattle.context.specs.Start.{StartIs, WordsNeeded};
 ghost use Rattle.script.specs.Calls.{SoundWords, Scripted};
 ghost use Rattle.readers.specs.UsesOf.{definitionBy, refusalIn, countIn};
-ghost use Rattle.ffi.specs.Called.{layoutBy, ranBy, EditCalled, Listed, UsesCalled};
+ghost use Rattle.ffi.specs.Called.{layoutBy, ranBy, ToldAnswer, EditCalled, Listed, UsesCalled};
 
 // The capacities as the store takes them.
 fn layout(ops: u32, blocks: u32, regions: u32, values: u32, uses: u32) -> Layout
@@ -46,7 +50,31 @@ pub extern "C" fn recipe_start(
     context::start(store, l)
 }
 
-// One edit: its three numbers in `answer`; 22 where that has no room for them, and then nothing is looked at.
+// The refusal of an answer, or 0.
+fn refusal_in(a: Answer) -> u32
+    ensures { λ r. ⌜ r ≡ numbers-of a .refusal ⌝ }
+{
+    match a {
+        Answer::Accepted(_, _) => 0,
+        Answer::Refused(n) => n,
+    }
+}
+
+// The refusal of an answer, and its three numbers in `out`; for 6 nothing is written.
+fn tell_answer(a: Answer, out: &mut [u32]) -> u32
+    requires { ⌜ 3 ≤ length (now out) ⌝ }
+    ensures { λ r. ⌜ ToldAnswer a (now (out .entry)) (now (out .exit)) r ⌝ }
+{
+    let n = refusal_in(a);
+    if n == 6 {
+        return n;
+    }
+    edit::put_answer(out, 0, a);
+    n
+}
+
+// One edit: its refusal or 0, and its three numbers in `answer`. 22 where `answer` has no room for them, before anything is
+// looked at; 6 where the store is not sound, and then no answer is written. The scratch is all zeros after it.
 #[no_mangle]
 pub extern "C" fn recipe_edit(
     store: &mut [u32],
@@ -57,11 +85,11 @@ pub extern "C" fn recipe_edit(
     ensures { λ r. ⌜ EditCalled (now (bytes .entry)) (now (store .entry)) (now (store .exit)) (now (scratch .entry)) (now (scratch .exit)) (now (answer .entry)) (now (answer .exit)) r ⌝ }
 {
     if answer.len() < 3 {
+        script::clear(scratch);
         return 22;
     }
     let a = script::edit(store, scratch, bytes);
-    edit::put_answer(answer, 0, a);
-    answer[0]
+    tell_answer(a, answer)
 }
 
 // A script: its code, and in `count` how many answers it wrote.
@@ -88,22 +116,31 @@ pub extern "C" fn recipe_check(store: &[u32]) -> bool
     sound::check(store)
 }
 
-// The listing of the answers and of a sound store, as far as `out` has room: its length, or 0 where the store is not sound.
+// The listing of the answers and of a sound store, as far as `out` has room; `length` gets how many bytes it wrote. 6 where
+// the store is not sound, 22 where a listing cannot number the answers; then `out` is kept and `length` is 0.
 #[no_mangle]
-pub extern "C" fn recipe_listing(store: &[u32], answers: &[u32], out: &mut [u8]) -> usize
-    ensures { λ r. ⌜ Listed (now (store .entry)) (now (answers .entry)) (now (out .entry)) (now (out .exit)) r ⌝ }
+pub extern "C" fn recipe_listing(
+    store: &[u32],
+    answers: &[u32],
+    out: &mut [u8],
+    length: &mut u64,
+) -> u32
+    ensures { λ r. ⌜ Listed (now (store .entry)) (now (answers .entry)) (now (out .entry)) (now (out .exit)) (now (length .exit)) r ⌝ }
 {
+    *length = 0;
     let good = sound::check(store);
     if !good {
-        return 0;
+        return 6;
     }
     let l = context::layout_of(store);
     let n = answers.len() / 3;
     if n > 4294967295 {
-        return 0;
+        return 22;
     }
     let a = listing::write_answers(answers, n, out, 0);
-    listing::write_listing(store, l, out, a)
+    let b = listing::write_listing(store, l, out, a);
+    *length = b as u64;
+    0
 }
 
 // The uses of a value or a block into the caller's buffer: 0 and their count, or the refusal.

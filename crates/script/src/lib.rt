@@ -27,7 +27,7 @@ pub enum Step {
 }
 
 // Every word becomes 0.
-fn clear(s: &mut [u32])
+pub fn clear(s: &mut [u32])
     ensures { λ _. ⌜ now (s .exit) ≡ replicate (length (now (s .entry))) 0 ⌝ }
 {
     let mut i = 0;

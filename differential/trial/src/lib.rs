@@ -11,7 +11,7 @@ mod words;
 use reading::Store;
 use std::{collections::BTreeMap, slice, sync::OnceLock};
 
-const FAULTS: [&str; 19] = [
+const FAULTS: [&str; 22] = [
     "none",
     "an edit that is refused leaves its scratch",
     "an edit that gets 12 changes a word",
@@ -31,6 +31,9 @@ const FAULTS: [&str; 19] = [
     "a reader with too little room writes what fits",
     "the uses of a block lack the last",
     "the words of a store are one too few where an occupancy map ends in a half word",
+    "an edit without room for its answer leaves its scratch",
+    "an edit on an unsound store writes an answer",
+    "an unsound store is listed as nothing",
 ];
 
 fn fault(name: &str) -> bool {
@@ -152,11 +155,20 @@ pub unsafe extern "C" fn recipe_start(p: *mut u32, n: usize, ops: u32, blocks: u
 
 #[unsafe(no_mangle)]
 pub unsafe extern "C" fn recipe_edit(p: *mut u32, n: usize, s: *mut u32, m: usize, record: *const u8, length: usize, answer: *mut u32, three: usize) -> u32 {
+    let (scratch, answer) = unsafe { (lent_mut(s, m), lent_mut(answer, three)) };
+    if three < 3 {
+        if !fault("an edit without room for its answer leaves its scratch") {
+            scratch.fill(0);
+        }
+        return 22;
+    }
     let got = unsafe { edit(lent_mut(p, n), lent(record, length), m) };
     if got[0] == 0 || !fault("an edit that is refused leaves its scratch") {
-        unsafe { lent_mut(s, m) }.fill(0);
+        scratch.fill(0);
     }
-    unsafe { lent_mut(answer, three) }.copy_from_slice(&got);
+    if got[0] != 6 || fault("an edit on an unsound store writes an answer") {
+        answer.copy_from_slice(&got);
+    }
     got[0]
 }
 
@@ -222,12 +234,16 @@ pub unsafe extern "C" fn recipe_block_uses(p: *const u32, n: usize, number: u32,
 }
 
 #[unsafe(no_mangle)]
-pub unsafe extern "C" fn recipe_listing(p: *const u32, n: usize, answers: *const u32, words: usize, out: *mut u8, room: usize) -> usize {
-    let (store, _) = words::read(unsafe { lent(p, n) }).unwrap();
+pub unsafe extern "C" fn recipe_listing(p: *const u32, n: usize, answers: *const u32, words: usize, out: *mut u8, room: usize, written: *mut u64) -> u32 {
+    unsafe { *written = 0 };
+    let Some((store, _)) = words::read(unsafe { lent(p, n) }) else {
+        return if fault("an unsound store is listed as nothing") { 0 } else { 6 };
+    };
     let answers: Vec<[u32; 3]> = unsafe { lent(answers, words) }.chunks(3).map(|c| c.try_into().unwrap()).collect();
     let text = store.listing(&answers);
     let length = text.len() - fault("the listing lacks its last byte") as usize;
     let out = unsafe { lent_mut(out, room) };
     out[..length].copy_from_slice(&text.as_bytes()[..length]);
-    length
+    unsafe { *written = length as u64 };
+    0
 }

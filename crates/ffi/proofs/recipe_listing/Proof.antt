@@ -18,7 +18,9 @@ layout-of-requires c κs =
     header m (says-yes (c .before .check .result) (SoundWords m) (c .if1 .left) (c .before .check .ensures))
 
 returns-2 : tie.Need-returns-2
-returns-2 c = too-many (c .if2 .taken)
+returns-2 c =
+    let m = c .before .before .before .before .before .before .before .args .store .now in
+    too-many (says-yes (c .before .before .before .check .result) (SoundWords m) (c .before .before .if1 .left) (c .before .before .before .check .ensures)) (c .if2 .taken)
 
 write-answers-requires : tie.Need-write-answers-requires
 write-answers-requires c κs = search needs

@@ -1,5 +1,5 @@
 #!/bin/sh
-# run.sh N SEED [LONGEST]: N random scripts of at most LONGEST records (200) from the seed on; prints coverage, counts and seeds, and ends with 1 if a script differs.
+# run.sh N SEED [LONGEST]: N random scripts of at most LONGEST records (200) from the seed on; prints coverage, counts and seeds, and ends with 1 if a script differs or a kind gets a reply that it cannot get.
 # With RECIPE_LIB also the proved store, and after the scripts N / 10 starts, damaged stores and scattered stores.
 set -eu
 cd "$(dirname "$0")"

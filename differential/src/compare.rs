@@ -176,7 +176,8 @@ pub fn possible() -> Vec<Met> {
     all
 }
 
-pub fn print_coverage(coverage: &Coverage) {
+/// Prints what came up. Returns how many pairs were met that cannot come up: a fault of the second reading, or of `possible`.
+pub fn print_coverage(coverage: &Coverage) -> usize {
     for kind in 0..=44u16 {
         let of_kind = coverage.range((kind, 0)..(kind + 1, 0)).map(|(m, n)| format!("{}:{n}", reply_name(m.1)));
         println!("kind {kind:2}  {}", of_kind.collect::<Vec<_>>().join(" "));
@@ -187,6 +188,7 @@ pub fn print_coverage(coverage: &Coverage) {
     println!("{} of {} pairs of kind and reply met", possible.len() - missing.len(), possible.len());
     println!("not met: {}", if missing.is_empty() { "none".into() } else { missing.join(", ") });
     println!("met and thought impossible: {}", if surplus.is_empty() { "none".into() } else { surplus.join(", ") });
+    surplus.len()
 }
 fn reply_name(reply: u32) -> String {
     match reply {

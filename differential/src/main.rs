@@ -17,7 +17,7 @@ fn report(name: &str, seed: u64, script: &[u8], capacities: reading::Capacities,
     println!("  shrunk: {}\n  bytes: {}\n  {}", text(&small), hex(&small), difference(&small, capacities).unwrap());
 }
 
-/// n scripts from a seed on, each of at most so many records.
+/// n scripts from a seed on, each of at most so many records: how many differ, and pairs of kind and reply that cannot come up.
 fn run(n: u64, seed: u64, longest: usize) -> usize {
     let (mut coverage, mut differ, mut bytes, begun) = (Coverage::new(), 0, 0, Instant::now());
     let mut by_profile: BTreeMap<&str, u64> = BTreeMap::new();
@@ -39,7 +39,7 @@ fn run(n: u64, seed: u64, longest: usize) -> usize {
         }
     }
     let (records, accepted) = (coverage.values().sum::<u64>(), coverage.iter().filter(|(m, _)| m.1 == 0 || m.1 >= 100).map(|x| x.1).sum::<u64>());
-    print_coverage(&coverage);
+    let surplus = print_coverage(&coverage);
     println!("scripts by profile: {by_profile:?}");
     println!(
         "seeds {seed} to {}: {n} scripts ({} distinct), {bytes} bytes, {records} records, {accepted} accepted, {differ} differ, {:.0} s",
@@ -47,7 +47,7 @@ fn run(n: u64, seed: u64, longest: usize) -> usize {
         distinct.len(),
         begun.elapsed().as_secs_f64()
     );
-    differ
+    differ + surplus
 }
 
 /// The first script that differs, and how many it took.
@@ -78,16 +78,17 @@ fn show(args: &[String]) {
     }
 }
 
-fn record(path: &str) {
+fn record(path: &str) -> usize {
     let scripts = recorded::scripts(1, 12, 2);
     let file = recorded::file(&scripts);
     let mut coverage = Coverage::new();
     for m in scripts.iter().filter(|s| s.len() <= 16_384).flat_map(|s| met(s, reading::PROGRAM)) {
         *coverage.entry(m).or_default() += 1;
     }
-    print_coverage(&coverage);
+    let surplus = print_coverage(&coverage);
     println!("{} scripts, {} bytes", scripts.len(), file.len());
     std::fs::write(path, file).unwrap();
+    surplus
 }
 
 /// For each planted fault: how many scripts of each profile it takes until one shows it.
@@ -131,10 +132,7 @@ fn main() {
             show(&args);
             0
         }
-        "record" => {
-            record(&args[1]);
-            0
-        }
+        "record" => record(&args[1]),
         "definitions" => {
             definitions::write(args[1].as_ref(), number(&args, 2, 400), number(&args, 3, 1), number(&args, 4, 16_385) as usize).unwrap();
             0

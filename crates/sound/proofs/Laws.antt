@@ -10,6 +10,7 @@ use Rattle.seqs.specs.Seqs.{Says}
 use Rattle.seqs.specs.Split.{split, start, length-part}
 use Rattle.seqs.proofs.Says.{says-map}
 use Rattle.table.specs.Table as T
+use Rattle.table.proofs.Live.{length-live}
 use Rattle.linked_list.specs.Links.{home, Linked, Sizes}
 use Rattle.arena.specs.Packed.{front}
 use Rattle.places.specs.Store.{Kind, op, blk, reg, val, usg, Fam, slots, useSets, vals, regs, opsIn, blocksIn, Sound}
@@ -17,13 +18,14 @@ use Rattle.places.specs.Parts.{Parts, rowsOf, store}
 use Rattle.context.specs.declared.Layout.{Layout}
 use Rattle.context.specs.declared.Span.{Span}
 use Rattle.context.specs.Layout.{arena, capOf, ncOf, nnOf, sizes, total, kindPart, famPart, Caps, SpanOf, RoomOf, TagsAt}
+use Rattle.context.specs.Reading.{LiveIs}
 use Rattle.context.specs.Memory.{part, decode, partsOf, layoutOf, stateOf, Well, SoundStore}
 use Rattle.context.proofs.Pieces.{lent, fam-part<, kind-part<}
 use Rattle.context.proofs.Books as books
 use Rattle.context.proofs.Thin as thin
 use Rattle.sound_parts.specs.Cross.{Crossed, codeOf}
 use Rattle.sound_parts.specs.Memory as S
-use Rattle.sound_parts.specs.Tests.{Fits, UsesIn, UsesOk, ValsIn, ValsOk, NestIn, NestOk}
+use Rattle.sound_parts.specs.Tests.{UsesIn, UsesOk, ValsIn, ValsOk, NestIn, NestOk}
 use Rattle.sound_parts.proofs.Slices.{checked-iff}
 use Rattle.sound_parts.proofs.Whole.{crossed-of, uses-of, vals-of, nest-of}
 use Rattle.sound.specs.Crossing.{tableIn, UsesCross, ValsCross, NestCross}
@@ -58,8 +60,8 @@ module _ (l : Layout) (m : List ℕ) where
 -- ---- what the tests ask
 
 module _ {l : Layout} {m : List ℕ} (W : Well l m) where
-  fits : (k : Kind) → Fits (capOf l k) (tableIn l m k)
-  fits k = let t : T.Table (capOf l k) (tableIn l m k) = W .tables k .table in (t .cap, t .size)
+  shape : (k : Kind) → T.Shape (capOf l k) (tableIn l m k)
+  shape k = let t : T.Table (capOf l k) (tableIn l m k) = W .tables k .table in record { cap = t .cap; size = t .size; few = t .few }
 
   wide : (f : Fam) → Sizes (ncOf l f) (nnOf l f)
   wide slots = record { containers = omega (arith, W .caps .ops); nodes = W .caps .uses }
@@ -70,18 +72,23 @@ module _ {l : Layout} {m : List ℕ} (W : Well l m) where
   wide blocksIn = record { containers = omega (arith, W .caps .regions); nodes = omega (arith, W .caps .blocks) }
 
   pub uses-in : UsesIn (l .ops) (l .blocks) (l .values) (l .uses) (tableIn l m op) (tableIn l m blk) (tableIn l m val) (tableIn l m usg) (part l m 6) (part l m 7)
-  uses-in = record { ops = fits op; blocks = fits blk; values = fits val; uses = fits usg; slots = (wide slots, W .families slots); sets = (wide useSets, W .families useSets) }
+  uses-in = record { ops = shape op; blocks = shape blk; values = shape val; uses = shape usg; slots = (wide slots, W .families slots); sets = (wide useSets, W .families useSets) }
 
   pub vals-in : ValsIn (l .ops) (l .blocks) (l .values) (tableIn l m op) (tableIn l m blk) (tableIn l m val) (part l m 8)
-  vals-in = record { ops = fits op; blocks = fits blk; values = fits val; vals = (wide vals, W .families vals) }
+  vals-in = record { ops = shape op; blocks = shape blk; values = shape val; vals = (wide vals, W .families vals) }
 
   flags-long : length (part l m 12) ≡ l .ops
   flags-long =
       ap length (sym (lent l 12 (start (sizes l) 12) (start (sizes l) 12 + l .ops) m (omega arith) refl refl))
       ∙ length-part (start (sizes l) 12) (start (sizes l) 12 + l .ops) m (omega (arith, W .fits)) ∙ omega arith
 
-  pub nest-in : NestIn (l .ops) (l .blocks) (l .regions) (tableIn l m op) (tableIn l m blk) (tableIn l m reg) (part l m 10) (part l m 11) (part l m 9) (part l m 12)
-  nest-in = record { ops = fits op; blocks = fits blk; regions = fits reg; nest = record { caps = (W .caps .ops, (W .caps .blocks, W .caps .regions)); ops = W .families opsIn; blocks = W .families blocksIn; regions = W .families regs }; flags = flags-long }
+  -- how many operations live, as their table counts them
+  counted : (n : ℕ) → LiveIs l op m n → n ≡ T.count (tableIn l m op)
+  unfolding store partsOf
+  counted n N = N .is ∙ length-live (T.entry (l .ops) (tableIn l m op)) (T.count (tableIn l m op))
+
+  pub nest-in : (n : ℕ) → LiveIs l op m n → NestIn (l .ops) (l .blocks) (l .regions) n (tableIn l m op) (tableIn l m blk) (tableIn l m reg) (part l m 10) (part l m 11) (part l m 9) (part l m 12)
+  nest-in n N = record { ops = shape op; blocks = shape blk; regions = shape reg; nest = record { caps = (W .caps .ops, (W .caps .blocks, W .caps .regions)); ops = W .families opsIn; blocks = W .families blocksIn; regions = W .families regs }; flags = flags-long; alive = counted n N }
 
 -- ---- what they find
 
@@ -206,8 +213,8 @@ module _ {l : Layout} {m : List ℕ} (W : Well l m) (o b : Span) (O : RoomOf l o
     vals-say k h = subst (λ (A : Type 0). Says k A) (λ i. ValsOk (O .capacity i) (B .capacity i) (X .capacity i) (table-seen l m op o O i) (table-seen l m blk b B i) (table-seen l m val v X i) (family-seen l m vals f F i)) h
 
   module _ (r f g h : Span) (t : ℕ) (R : RoomOf l reg r) (F : SpanOf l regs f) (G : SpanOf l opsIn g) (H : SpanOf l blocksIn h) (T : TagsAt l op t) where
-    pub nest-asked : NestIn (o .nc) (b .nc) (r .nc) (table o) (table b) (table r) (family g) (family h) (family f) (take (t + o .nc - t) (drop t m))
-    nest-asked = subst (λ (A : Type 0). A) (λ i. NestIn (sym (O .capacity) i) (sym (B .capacity) i) (sym (R .capacity) i) (sym (table-seen l m op o O) i) (sym (table-seen l m blk b B) i) (sym (table-seen l m reg r R) i) (sym (family-seen l m opsIn g G) i) (sym (family-seen l m blocksIn h H) i) (sym (family-seen l m regs f F) i) (sym (flags-seen l m t (o .nc) T (O .capacity)) i)) (nest-in W)
+    pub nest-asked : (n : ℕ) → LiveIs l op m n → NestIn (o .nc) (b .nc) (r .nc) n (table o) (table b) (table r) (family g) (family h) (family f) (take (t + o .nc - t) (drop t m))
+    nest-asked n N = subst (λ (A : Type 0). A) (λ i. NestIn (sym (O .capacity) i) (sym (B .capacity) i) (sym (R .capacity) i) n (sym (table-seen l m op o O) i) (sym (table-seen l m blk b B) i) (sym (table-seen l m reg r R) i) (sym (family-seen l m opsIn g G) i) (sym (family-seen l m blocksIn h H) i) (sym (family-seen l m regs f F) i) (sym (flags-seen l m t (o .nc) T (O .capacity)) i)) (nest-in W n N)
 
     pub nest-say : (k : Bool) → Says k (NestOk (o .nc) (b .nc) (r .nc) (table o) (table b) (table r) (family g) (family h) (family f) (take (t + o .nc - t) (drop t m))) → Says k (NestCross l m)
     nest-say k s = subst (λ (A : Type 0). Says k A) (λ i. NestOk (O .capacity i) (B .capacity i) (R .capacity i) (table-seen l m op o O i) (table-seen l m blk b B i) (table-seen l m reg r R i) (family-seen l m opsIn g G i) (family-seen l m blocksIn h H i) (family-seen l m regs f F i) (flags-seen l m t (o .nc) T (O .capacity) i)) s

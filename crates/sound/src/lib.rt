@@ -75,6 +75,7 @@ fn cross_nest(m: &[u32], l: Layout) -> bool
     requires { ⌜ Well l (now m) ⌝ }
     ensures { λ k. ⌜ Says k (NestCross l (now (m .entry))) ⌝ }
 {
+    let n = context::live_count(m, l, 0);
     let o = context::table_span(l, 0);
     let ao = o.at;
     let eo = ao + (2 + o.nc + o.nc);
@@ -106,6 +107,7 @@ fn cross_nest(m: &[u32], l: Layout) -> bool
         o.nc,
         b.nc,
         r.nc,
+        n,
     )
 }
 

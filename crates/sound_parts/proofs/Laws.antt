@@ -8,12 +8,12 @@ use native.Mathlib.Omega.{arith}
 use Prim.Native.Nat.{ℕ, zero, suc, _+_, _-_, _*_, _<_, _≤_}
 use lib.ListN.{length, getD}
 use Rattle.table.specs.Table.{Says}
-use Rattle.linked_list.specs.Links.{home, at, Linked}
+use Rattle.linked_list.specs.Links.{home, at, row, lists, rowOf, nextIn, Linked}
 use Rattle.linked_list.proofs.Laws.{at-lt}
 use Rattle.linked_list.proofs.View.{seat}
-use Rattle.linked_list.proofs.Getters.{at-ne, at-nil}
+use Rattle.linked_list.proofs.Getters.{cells, walk-step, code≤, at-ne, at-nil}
 use Rattle.sound_parts.specs.Cross.{stepUp}
-use Rattle.sound_parts.specs.Tests.{UseAt, SlotsAt, row, climb}
+use Rattle.sound_parts.specs.Tests.{UseAt, SlotsAt, climb}
 
 -- the container of a node is one of the containers
 pub home-le : (nc nn : ℕ) (s : List ℕ) → Linked nc nn s → (q : ℕ) → q < nn → getD s (home nc nn q) 0 ≤ nc
@@ -77,12 +77,9 @@ pub says-climb : (k t : Bool) (s g : ℕ) → k ≡ t → 0 < s → 0 < g → Sa
 says-climb true t s g e h j = λ _ _. sym e
 says-climb false t s g e h j = λ f. let w : t ≡ true = f h j in let z : _≡_ {A = ℕ} 0 1 = cc in omega arith
 
--- a list is empty exactly if its head is 0
-pub head-none : (nc nn : ℕ) (s : List ℕ) → Linked nc nn s → (c : ℕ) → c < nc → getD s c 0 ≡ 0 → length (row nc nn s c) ≡ 0
-head-none nc nn s K c h e = omega (arith, at-nil (row nc nn s c) zero (getD s c 0) (K .row c h .next zero (omega arith)) e)
-
-pub head-some : (nc nn : ℕ) (s : List ℕ) → Linked nc nn s → (c : ℕ) → c < nc → (getD s c 0 ≡ 0 → ⊥) → 0 < length (row nc nn s c)
-head-some nc nn s K c h n = at-ne (row nc nn s c) zero (getD s c 0) (K .row c h .next zero (omega arith)) n
+-- one step along the list c: what is read for the node after the j-th
+pub step-along : {nc nn : ℕ} {s : List ℕ} → Linked nc nn s → (c j k w x : ℕ) → c < nc → k ≡ at (row nc nn s c) j → (k ≡ 0 → ⊥) → w ≡ k → x ≡ nextIn (w - 1) (rowOf (w - 1) (lists nc nn s)) → x ≡ at (row nc nn s c) (j + 1)
+step-along {nc} {nn} {s} K c j k w x h e n f g = g ∙ sym (cells K (w - 1) (omega (arith, code≤ (K .row c h) j k e)) .next) ∙ walk-step (K .row c h) j k w e (at-ne (row nc nn s c) j k e n) f
 
 pub says-of : (b : Bool) (P : Type 0) → b ≡ true → P → Says b P
 says-of b P e h = subst (λ (x : Bool). Says x P) (sym e) h

@@ -6,11 +6,11 @@ use Prim.Native.Nat.{ℕ, zero, suc, _+_, _*_, _/_, _<_}
 use lib.ListN.{getD}
 use Rattle.places.specs.Store.{op, usg, Fam, slots, useSets, vals, regs, opsIn, blocksIn}
 use Rattle.places.specs.Parts.{nodeIn}
-use Rattle.linked_list.specs.Links.{home, at, lists}
+use Rattle.linked_list.specs.Links.{home, at, lists, row}
 use Rattle.linked_list.proofs.View.{seat, Seat}
 use Rattle.sound_parts.specs.Cross.{Node, Crossed}
 use Rattle.sound_parts.specs.Memory.{Mem, cellsOf, Formed, memOf}
-use Rattle.sound_parts.specs.Tests.{UseAt, SlotsAt, Slots, row, UsesOk, ValsOk, NestOk}
+use Rattle.sound_parts.specs.Tests.{UseAt, SlotsAt, Slots, UsesOk, ValsOk, NestOk}
 
 some-code : (h : ℕ) → 0 < h → (k : ℕ) × (h ≡ suc k)
 some-code zero p = absurd (omega arith)

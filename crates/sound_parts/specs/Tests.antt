@@ -1,16 +1,12 @@
 -- What each test finds, over slices of any contents. Assumes nothing.
 use mathlib.Core.Path.{_≡_}
 use mathlib.Core.Bool.{Bool, true}
-use mathlib.Core.List.{List, []}
+use mathlib.Core.List.{List}
 use Prim.Native.Nat.{ℕ, suc, _+_, _-_, _*_, _/_, _%_, _<_, _≤_}
 use lib.ListN.{length, getD}
-use Rattle.table.specs.Table.{stamp, count}
-use Rattle.linked_list.specs.Links.{home, at, lists, Linked, Sizes}
+use Rattle.table.specs.Table.{stamp, count, Shape}
+use Rattle.linked_list.specs.Links.{home, at, row, Linked, Sizes}
 use Rattle.sound_parts.specs.Cross.{climbBy}
-
--- a table's slice has its length
-abbrev pub Fits : ℕ → List ℕ → Type 0
-Fits n t = (n ≤ 16384) × (length t ≡ 2 + n + n)
 
 abbrev pub DirectAt : ℕ → ℕ → List ℕ → List ℕ → List ℕ → ℕ → Type 0
 DirectAt nc nn s tn th q = (k : ℕ) → getD s (home nc nn q) 0 ≡ suc k → (0 < stamp nn tn q) × (0 < stamp nc th k)
@@ -29,9 +25,6 @@ MustAt nc nn s t q = 0 < stamp nn t q → 0 < getD s (home nc nn q) 0
 
 abbrev pub Must : ℕ → ℕ → List ℕ → List ℕ → Type 0
 Must nc nn s t = (q : ℕ) → q < nn → MustAt nc nn s t q
-
-abbrev pub row : ℕ → ℕ → List ℕ → ℕ → List ℕ
-row nc nn s c = getD (lists nc nn s) c []
 
 abbrev pub Short : ℕ → ℕ → List ℕ → Type 0
 Short nc nn s = (c : ℕ) → c < nc → length (row nc nn s c) ≤ 64
@@ -78,10 +71,10 @@ pub record Nest (o b r : ℕ) (so sb sr : List ℕ) : Type 0 where
 -- ---- the tests of uses, of values, and of the nest
 
 pub record UsesIn (o b v u : ℕ) (to tb tv tu ss su : List ℕ) : Type 0 where
-  pub ops : Fits o to
-  pub blocks : Fits b tb
-  pub values : Fits v tv
-  pub uses : Fits u tu
+  pub ops : Shape o to
+  pub blocks : Shape b tb
+  pub values : Shape v tv
+  pub uses : Shape u tu
   pub slots : Sizes (2 * o) u × Linked (2 * o) u ss
   pub sets : Sizes (v + b) u × Linked (v + b) u su
 
@@ -91,9 +84,9 @@ pub record UsesOk (o b v u : ℕ) (to tb tv tu ss su : List ℕ) : Type 0 where
   pub sets : Fork v b u su tu tv tb
 
 pub record ValsIn (o b v : ℕ) (to tb tv sv : List ℕ) : Type 0 where
-  pub ops : Fits o to
-  pub blocks : Fits b tb
-  pub values : Fits v tv
+  pub ops : Shape o to
+  pub blocks : Shape b tb
+  pub values : Shape v tv
   pub vals : Sizes (o + b) v × Linked (o + b) v sv
 
 pub record ValsOk (o b v : ℕ) (to tb tv sv : List ℕ) : Type 0 where
@@ -101,12 +94,14 @@ pub record ValsOk (o b v : ℕ) (to tb tv sv : List ℕ) : Type 0 where
   pub must : Must (o + b) v sv tv
   pub short : Short (o + b) v sv
 
-pub record NestIn (o b r : ℕ) (to tb tr so sb sr fl : List ℕ) : Type 0 where
-  pub ops : Fits o to
-  pub blocks : Fits b tb
-  pub regions : Fits r tr
+-- n is how many operations live
+pub record NestIn (o b r n : ℕ) (to tb tr so sb sr fl : List ℕ) : Type 0 where
+  pub ops : Shape o to
+  pub blocks : Shape b tb
+  pub regions : Shape r tr
   pub nest : Nest o b r so sb sr
   pub flags : length fl ≡ o
+  pub alive : n ≡ count to
 
 pub record NestOk (o b r : ℕ) (to tb tr so sb sr fl : List ℕ) : Type 0 where
   pub regs : Direct o r sr tr to

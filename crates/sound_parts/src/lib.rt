@@ -1,11 +1,10 @@
 // The check of a whole store, over its parts.
 ghost use mathlib.Core.Path.{_≡_};
-ghost use mathlib.Core.Bool.{true, false};
-ghost use Prim.Native.Nat.{_+_, _-_, _*_, _/_, _%_, _≤_, _<_};
+ghost use Prim.Native.Nat.{_+_, _*_, _≤_, _<_};
 ghost use lib.ListN.{length, getD};
-ghost use Rattle.table.specs.Table.{Says, stamp};
+ghost use Rattle.table.specs.Table.{Says, Shape};
 ghost use Rattle.linked_list.specs.Links.{Sizes, Linked, home};
-ghost use Rattle.sound_parts.specs.Tests.{Fits, DirectAt, Direct, ForkAt, Fork, MustAt, Must, Short, FlagAt, Flags, UseAt, Slots, climb, ClimbAt, Climbs, Nest, UsesIn, UsesOk, ValsIn, ValsOk, NestIn, NestOk};
+ghost use Rattle.sound_parts.specs.Tests.{DirectAt, Direct, ForkAt, Fork, MustAt, Must, Short, FlagAt, Flags, UseAt, Slots, climb, ClimbAt, Climbs, Nest, UsesIn, UsesOk, ValsIn, ValsOk, NestIn, NestOk};
 
 fn wide(x: u32) -> usize
     ensures { λ r. ⌜ r ≡ x ⌝ }
@@ -13,29 +12,20 @@ fn wide(x: u32) -> usize
     x as usize
 }
 
-// The stamp of a place: 0 where it is free.
-fn stamp_at(t: &[u32], n: usize, p: usize) -> usize
-    requires { ⌜ Fits n (now t) ⌝ }
-    requires { ⌜ p < n ⌝ }
-    ensures { λ r. ⌜ r ≡ stamp n (now (t .entry)) p ⌝ }
-{
-    wide(t[2 + n + p])
-}
-
-// The container of a node, as stored: 0 for none.
+// The container of a node, as stored, 0 for none: where the links agree it is one of the nc.
 fn home_at(s: &[u32], nc: usize, nn: usize, q: usize) -> usize
     requires { ⌜ Sizes nc nn ⌝ }
     requires { ⌜ Linked nc nn (now s) ⌝ }
     requires { ⌜ q < nn ⌝ }
     ensures { λ r. ⌜ (r ≡ getD (now (s .entry)) (home nc nn q) 0) × (r ≤ nc) ⌝ }
 {
-    wide(s[2 * nc + 2 * nn + q])
+    linked_list::get_home(s, nc, nn, q)
 }
 
 // Whether a node in a list lives, and so does what has the list: container k is the thing at place k.
 fn direct_at(s: &[u32], nc: usize, nn: usize, tn: &[u32], th: &[u32], q: usize) -> bool
     requires { ⌜ Sizes nc nn × Linked nc nn (now s) ⌝ }
-    requires { ⌜ Fits nn (now tn) × Fits nc (now th) ⌝ }
+    requires { ⌜ Shape nn (now tn) × Shape nc (now th) ⌝ }
     requires { ⌜ q < nn ⌝ }
     ensures { λ r. ⌜ Says r (DirectAt nc nn (now (s .entry)) (now (tn .entry)) (now (th .entry)) q) ⌝ }
 {
@@ -43,11 +33,11 @@ fn direct_at(s: &[u32], nc: usize, nn: usize, tn: &[u32], th: &[u32], q: usize) 
     if h == 0 {
         return true;
     }
-    let a = stamp_at(tn, nn, q);
+    let a = table::stamp_at(tn, nn, q);
     if a == 0 {
         return false;
     }
-    let b = stamp_at(th, nc, h - 1);
+    let b = table::stamp_at(th, nc, h - 1);
     if b == 0 {
         return false;
     }
@@ -56,7 +46,7 @@ fn direct_at(s: &[u32], nc: usize, nn: usize, tn: &[u32], th: &[u32], q: usize) 
 
 fn check_direct(s: &[u32], nc: usize, nn: usize, tn: &[u32], th: &[u32]) -> bool
     requires { ⌜ Sizes nc nn × Linked nc nn (now s) ⌝ }
-    requires { ⌜ Fits nn (now tn) × Fits nc (now th) ⌝ }
+    requires { ⌜ Shape nn (now tn) × Shape nc (now th) ⌝ }
     ensures { λ r. ⌜ Says r (Direct nc nn (now (s .entry)) (now (tn .entry)) (now (th .entry))) ⌝ }
 {
     let mut q = 0;
@@ -82,7 +72,7 @@ fn fork_at(
     q: usize,
 ) -> bool
     requires { ⌜ Sizes (na + nb) nn × Linked (na + nb) nn (now s) ⌝ }
-    requires { ⌜ Fits nn (now tn) × (Fits na (now ta) × Fits nb (now tb)) ⌝ }
+    requires { ⌜ Shape nn (now tn) × (Shape na (now ta) × Shape nb (now tb)) ⌝ }
     requires { ⌜ q < nn ⌝ }
     ensures { λ r. ⌜ Says r (ForkAt na nb nn (now (s .entry)) (now (tn .entry)) (now (ta .entry)) (now (tb .entry)) q) ⌝ }
 {
@@ -90,18 +80,18 @@ fn fork_at(
     if h == 0 {
         return true;
     }
-    let a = stamp_at(tn, nn, q);
+    let a = table::stamp_at(tn, nn, q);
     if a == 0 {
         return false;
     }
     if h - 1 < na {
-        let b = stamp_at(ta, na, h - 1);
+        let b = table::stamp_at(ta, na, h - 1);
         if b == 0 {
             return false;
         }
         return true;
     }
-    let d = stamp_at(tb, nb, h - 1 - na);
+    let d = table::stamp_at(tb, nb, h - 1 - na);
     if d == 0 {
         return false;
     }
@@ -118,7 +108,7 @@ fn check_fork(
     tb: &[u32],
 ) -> bool
     requires { ⌜ Sizes (na + nb) nn × Linked (na + nb) nn (now s) ⌝ }
-    requires { ⌜ Fits nn (now tn) × (Fits na (now ta) × Fits nb (now tb)) ⌝ }
+    requires { ⌜ Shape nn (now tn) × (Shape na (now ta) × Shape nb (now tb)) ⌝ }
     ensures { λ r. ⌜ Says r (Fork na nb nn (now (s .entry)) (now (tn .entry)) (now (ta .entry)) (now (tb .entry))) ⌝ }
 {
     let mut q = 0;
@@ -135,11 +125,11 @@ fn check_fork(
 // Whether a live node stands in a list.
 fn must_at(s: &[u32], nc: usize, nn: usize, t: &[u32], q: usize) -> bool
     requires { ⌜ Sizes nc nn × Linked nc nn (now s) ⌝ }
-    requires { ⌜ Fits nn (now t) ⌝ }
+    requires { ⌜ Shape nn (now t) ⌝ }
     requires { ⌜ q < nn ⌝ }
     ensures { λ r. ⌜ Says r (MustAt nc nn (now (s .entry)) (now (t .entry)) q) ⌝ }
 {
-    let a = stamp_at(t, nn, q);
+    let a = table::stamp_at(t, nn, q);
     if a == 0 {
         return true;
     }
@@ -152,7 +142,7 @@ fn must_at(s: &[u32], nc: usize, nn: usize, t: &[u32], q: usize) -> bool
 
 fn check_must(s: &[u32], nc: usize, nn: usize, t: &[u32]) -> bool
     requires { ⌜ Sizes nc nn × Linked nc nn (now s) ⌝ }
-    requires { ⌜ Fits nn (now t) ⌝ }
+    requires { ⌜ Shape nn (now t) ⌝ }
     ensures { λ r. ⌜ Says r (Must nc nn (now (s .entry)) (now (t .entry))) ⌝ }
 {
     let mut q = 0;
@@ -184,11 +174,11 @@ fn check_short(s: &[u32], nc: usize, nn: usize) -> bool
 
 // Whether a live operation's flags are at most 3.
 fn flag_at(t: &[u32], n: usize, flags: &[u32], p: usize) -> bool
-    requires { ⌜ Fits n (now t) × (length (now flags) ≡ n) ⌝ }
+    requires { ⌜ Shape n (now t) × (length (now flags) ≡ n) ⌝ }
     requires { ⌜ p < n ⌝ }
     ensures { λ r. ⌜ Says r (FlagAt n (now (t .entry)) (now (flags .entry)) p) ⌝ }
 {
-    let a = stamp_at(t, n, p);
+    let a = table::stamp_at(t, n, p);
     if a == 0 {
         return true;
     }
@@ -199,7 +189,7 @@ fn flag_at(t: &[u32], n: usize, flags: &[u32], p: usize) -> bool
 }
 
 fn check_flags(t: &[u32], n: usize, flags: &[u32]) -> bool
-    requires { ⌜ Fits n (now t) × (length (now flags) ≡ n) ⌝ }
+    requires { ⌜ Shape n (now t) × (length (now flags) ≡ n) ⌝ }
     ensures { λ r. ⌜ Says r (Flags n (now (t .entry)) (now (flags .entry))) ⌝ }
 {
     let mut p = 0;
@@ -225,16 +215,16 @@ fn use_at(
     c: usize,
     x: usize,
 ) -> bool
-    requires { ⌜ Fits o (now to) × Fits u (now tu) ⌝ }
+    requires { ⌜ Shape o (now to) × Shape u (now tu) ⌝ }
     requires { ⌜ Sizes (v + b) u × Linked (v + b) u (now sets) ⌝ }
     requires { ⌜ (c < 2 * o) × (x < u) ⌝ }
     ensures { λ r. ⌜ Says r (UseAt o b v u (now (to .entry)) (now (tu .entry)) (now (sets .entry)) c x) ⌝ }
 {
-    let a = stamp_at(tu, u, x);
+    let a = table::stamp_at(tu, u, x);
     if a == 0 {
         return false;
     }
-    let d = stamp_at(to, o, c / 2);
+    let d = table::stamp_at(to, o, c / 2);
     if d == 0 {
         return false;
     }
@@ -265,7 +255,7 @@ fn check_slots(
     v: usize,
     b: usize,
 ) -> bool
-    requires { ⌜ Fits o (now to) × Fits u (now tu) ⌝ }
+    requires { ⌜ Shape o (now to) × Shape u (now tu) ⌝ }
     requires { ⌜ Sizes (2 * o) u × Linked (2 * o) u (now slots) ⌝ }
     requires { ⌜ Sizes (v + b) u × Linked (v + b) u (now sets) ⌝ }
     ensures { λ r. ⌜ Says r (Slots o b v u (now (to .entry)) (now (tu .entry)) (now (slots .entry)) (now (sets .entry))) ⌝ }
@@ -275,7 +265,7 @@ fn check_slots(
     'search: while p < o {
         let mut c = 2 * p;
         while c < 2 * p + 2 {
-            let mut k = slots[c];
+            let mut k = linked_list::get_head(slots, 2 * o, u, c);
             let mut j: usize = 0;
             while k != 0 {
                 let x = wide(k) - 1;
@@ -288,7 +278,7 @@ fn check_slots(
                     ok = false;
                     break 'search;
                 }
-                k = slots[2 * (2 * o) + x];
+                k = linked_list::get_next(slots, 2 * o, u, x);
                 j += 1;
             }
             c += 1;
@@ -342,15 +332,16 @@ fn climb_at(
     n: usize,
     p: usize,
 ) -> bool
-    requires { ⌜ Fits o (now to) × Nest o b r (now ops) (now blocks) (now regions) ⌝ }
+    requires { ⌜ Shape o (now to) × Nest o b r (now ops) (now blocks) (now regions) ⌝ }
     requires { ⌜ p < o ⌝ }
     ensures { λ k. ⌜ Says k (ClimbAt o b r (now (to .entry)) (now (ops .entry)) (now (blocks .entry)) (now (regions .entry)) n p) ⌝ }
 {
-    let a = stamp_at(to, o, p);
+    let a = table::stamp_at(to, o, p);
     if a == 0 {
         return true;
     }
-    if regions[p] == 0 {
+    let first = linked_list::get_head(regions, o, r, p);
+    if first == 0 {
         return true;
     }
     climbs(ops, blocks, regions, o, b, r, n, p)
@@ -366,7 +357,7 @@ fn check_climbs(
     r: usize,
     n: usize,
 ) -> bool
-    requires { ⌜ Fits o (now to) × Nest o b r (now ops) (now blocks) (now regions) ⌝ }
+    requires { ⌜ Shape o (now to) × Nest o b r (now ops) (now blocks) (now regions) ⌝ }
     ensures { λ k. ⌜ Says k (Climbs o b r (now (to .entry)) (now (ops .entry)) (now (blocks .entry)) (now (regions .entry)) n) ⌝ }
 {
     let mut p = 0;
@@ -439,7 +430,8 @@ pub fn check_values(
     true
 }
 
-// Operations, blocks and regions: only live things are linked, each region has its operation, and nothing lies inside itself.
+// Operations, blocks and regions: only live things are linked, each region has its operation, and nothing lies inside itself. n is how
+// many operations live: a climb that does not end within as many meets one twice.
 pub fn check_nest(
     to: &[u32],
     tb: &[u32],
@@ -451,8 +443,9 @@ pub fn check_nest(
     o: usize,
     b: usize,
     r: usize,
+    n: usize,
 ) -> bool
-    requires { ⌜ NestIn o b r (now to) (now tb) (now tr) (now ops) (now blocks) (now regions) (now flags) ⌝ }
+    requires { ⌜ NestIn o b r n (now to) (now tb) (now tr) (now ops) (now blocks) (now regions) (now flags) ⌝ }
     ensures { λ k. ⌜ Says k (NestOk o b r (now (to .entry)) (now (tb .entry)) (now (tr .entry)) (now (ops .entry)) (now (blocks .entry)) (now (regions .entry)) (now (flags .entry))) ⌝ }
 {
     let x1 = check_direct(regions, o, r, tr, to);
@@ -479,7 +472,6 @@ pub fn check_nest(
     if !x6 {
         return false;
     }
-    let n = wide(to[1]);
     let x7 = check_climbs(to, ops, blocks, regions, o, b, r, n);
     if !x7 {
         return false;

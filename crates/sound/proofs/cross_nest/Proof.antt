@@ -5,6 +5,9 @@ use borrow.Author.Needs.{needs}
 use Rattle.sound.proofs.cross_nest.Statement.{statement}
 use Rattle.sound.proofs.cross_nest.Tie as tie
 
+live-count-requires : tie.Need-live-count-requires
+live-count-requires c κs = search needs
+
 table-span-requires : tie.Need-table-span-requires
 table-span-requires c κs = search needs
 
@@ -57,7 +60,8 @@ add-ef-2 : tie.Need-add-ef-2
 add-ef-2 c = search needs
 
 family-span-requires-2 : tie.Need-family-span-requires-2
-family-span-requires-2 c κs = search needs
+family-span-requires-2 c κs =
+    c .before .before .before .before .before .before .before .before .before .before .before .before .before .before .pre .caps
 
 mul-eg : tie.Need-mul-eg
 mul-eg c = search needs
@@ -73,32 +77,35 @@ add-eg-2 c = search needs
 
 family-span-requires-3 : tie.Need-family-span-requires-3
 family-span-requires-3 c κs =
-    c .before .before .before .before .before .before .before .before .before .before .before .before .before .before .before .before .pre .caps
+    c .before .before .before .before .before .before .before .before .before .before .before .before .before .before .before .before .before .pre .caps
 
 mul-eh : tie.Need-mul-eh
-mul-eh c = search needs
+mul-eh c =
+    omega (arith, c .before .family-span3 .ensures .fits, small-total (c .before .before .before .before .before .before .before .before .before .before .before .before .before .before .before .before .before .before .before .pre .caps))
 
 add-eh : tie.Need-add-eh
-add-eh c = search needs
+add-eh c =
+    omega (arith, c .before .family-span3 .ensures .fits, small-total (c .before .before .before .before .before .before .before .before .before .before .before .before .before .before .before .before .before .before .before .pre .caps))
 
 mul-eh-2 : tie.Need-mul-eh-2
-mul-eh-2 c = search needs
+mul-eh-2 c =
+    omega (arith, c .before .before .family-span3 .ensures .fits, small-total (c .before .before .before .before .before .before .before .before .before .before .before .before .before .before .before .before .before .before .before .before .pre .caps))
 
 add-eh-2 : tie.Need-add-eh-2
 add-eh-2 c =
-    omega (arith, c .before .before .family-span3 .ensures .fits, small-total (c .before .before .before .before .before .before .before .before .before .before .before .before .before .before .before .before .before .before .before .pre .caps))
+    omega (arith, c .before .before .family-span3 .ensures .fits, small-total (c .before .before .before .before .before .before .before .before .before .before .before .before .before .before .before .before .before .before .before .before .pre .caps))
 
 flags-at-requires : tie.Need-flags-at-requires
 flags-at-requires c κs =
-    c .before .before .before .before .before .before .before .before .before .before .before .before .before .before .before .before .before .before .before .pre .caps
+    c .before .before .before .before .before .before .before .before .before .before .before .before .before .before .before .before .before .before .before .before .pre .caps
 
 add-et : tie.Need-add-et
 add-et c =
-    omega (arith, c .before .flags-at .ensures .fits, small-total (c .before .before .before .before .before .before .before .before .before .before .before .before .before .before .before .before .before .before .before .before .before .pre .caps), c .before .before .before .before .before .before .before .before .before .before .before .before .before .before .before .before .before .before .before .table-span .ensures .capacity)
+    omega (arith, c .before .flags-at .ensures .fits, small-total (c .before .before .before .before .before .before .before .before .before .before .before .before .before .before .before .before .before .before .before .before .before .before .pre .caps), c .before .before .before .before .before .before .before .before .before .before .before .before .before .before .before .before .before .before .before .table-span .ensures .capacity)
 
 mul-check-nest : tie.Need-mul-check-nest
 mul-check-nest c =
-    omega (arith, table-end (c .before .before .before .before .before .before .before .before .before .before .before .before .before .before .before .before .before .before .before .before .before .args .l) (c .before .before .before .before .before .before .before .before .before .before .before .before .before .before .before .before .before .before .before .before .before .args .m .now) op (c .before .before .before .before .before .before .before .before .before .before .before .before .before .before .before .before .before .before .before .table-span .result) (c .before .before .before .before .before .before .before .before .before .before .before .before .before .before .before .before .before .before .before .table-span .ensures), small-total (c .before .before .before .before .before .before .before .before .before .before .before .before .before .before .before .before .before .before .before .before .before .pre .caps))
+    omega (arith, table-end (c .before .before .before .before .before .before .before .before .before .before .before .before .before .before .before .before .before .before .before .before .before .before .args .l) (c .before .before .before .before .before .before .before .before .before .before .before .before .before .before .before .before .before .before .before .before .before .before .args .m .now) op (c .before .before .before .before .before .before .before .before .before .before .before .before .before .before .before .before .before .before .before .table-span .result) (c .before .before .before .before .before .before .before .before .before .before .before .before .before .before .before .before .before .before .before .table-span .ensures), small-total (c .before .before .before .before .before .before .before .before .before .before .before .before .before .before .before .before .before .before .before .before .before .before .pre .caps))
 
 sub-check-nest : tie.Need-sub-check-nest
 sub-check-nest c = search needs
@@ -108,11 +115,11 @@ part-check-nest-start c = search needs
 
 part-check-nest-end : tie.Need-part-check-nest-end
 part-check-nest-end c =
-    omega (arith, table-end (c .before .before .before .before .before .before .before .before .before .before .before .before .before .before .before .before .before .before .before .before .before .args .l) (c .before .before .before .before .before .before .before .before .before .before .before .before .before .before .before .before .before .before .before .before .before .args .m .now) op (c .before .before .before .before .before .before .before .before .before .before .before .before .before .before .before .before .before .before .before .table-span .result) (c .before .before .before .before .before .before .before .before .before .before .before .before .before .before .before .before .before .before .before .table-span .ensures), c .before .before .before .before .before .before .before .before .before .before .before .before .before .before .before .before .before .before .before .before .before .pre .fits)
+    omega (arith, table-end (c .before .before .before .before .before .before .before .before .before .before .before .before .before .before .before .before .before .before .before .before .before .before .args .l) (c .before .before .before .before .before .before .before .before .before .before .before .before .before .before .before .before .before .before .before .before .before .before .args .m .now) op (c .before .before .before .before .before .before .before .before .before .before .before .before .before .before .before .before .before .before .before .table-span .result) (c .before .before .before .before .before .before .before .before .before .before .before .before .before .before .before .before .before .before .before .table-span .ensures), c .before .before .before .before .before .before .before .before .before .before .before .before .before .before .before .before .before .before .before .before .before .before .pre .fits)
 
 mul-check-nest-2 : tie.Need-mul-check-nest-2
 mul-check-nest-2 c =
-    omega (arith, table-end (c .before .before .before .before .before .before .before .before .before .before .before .before .before .before .before .before .before .before .before .before .before .before .args .l) (c .before .before .before .before .before .before .before .before .before .before .before .before .before .before .before .before .before .before .before .before .before .before .args .m .now) blk (c .before .before .before .before .before .before .before .before .before .before .before .before .before .before .before .before .before .table-span2 .result) (c .before .before .before .before .before .before .before .before .before .before .before .before .before .before .before .before .before .table-span2 .ensures), small-total (c .before .before .before .before .before .before .before .before .before .before .before .before .before .before .before .before .before .before .before .before .before .before .pre .caps))
+    omega (arith, table-end (c .before .before .before .before .before .before .before .before .before .before .before .before .before .before .before .before .before .before .before .before .before .before .before .args .l) (c .before .before .before .before .before .before .before .before .before .before .before .before .before .before .before .before .before .before .before .before .before .before .before .args .m .now) blk (c .before .before .before .before .before .before .before .before .before .before .before .before .before .before .before .before .before .table-span2 .result) (c .before .before .before .before .before .before .before .before .before .before .before .before .before .before .before .before .before .table-span2 .ensures), small-total (c .before .before .before .before .before .before .before .before .before .before .before .before .before .before .before .before .before .before .before .before .before .before .before .pre .caps))
 
 sub-check-nest-2 : tie.Need-sub-check-nest-2
 sub-check-nest-2 c = search needs
@@ -122,11 +129,11 @@ part-check-nest-start-2 c = search needs
 
 part-check-nest-end-2 : tie.Need-part-check-nest-end-2
 part-check-nest-end-2 c =
-    omega (arith, table-end (c .before .before .before .before .before .before .before .before .before .before .before .before .before .before .before .before .before .before .before .before .before .before .args .l) (c .before .before .before .before .before .before .before .before .before .before .before .before .before .before .before .before .before .before .before .before .before .before .args .m .now) blk (c .before .before .before .before .before .before .before .before .before .before .before .before .before .before .before .before .before .table-span2 .result) (c .before .before .before .before .before .before .before .before .before .before .before .before .before .before .before .before .before .table-span2 .ensures), c .before .before .before .before .before .before .before .before .before .before .before .before .before .before .before .before .before .before .before .before .before .before .pre .fits)
+    omega (arith, table-end (c .before .before .before .before .before .before .before .before .before .before .before .before .before .before .before .before .before .before .before .before .before .before .before .args .l) (c .before .before .before .before .before .before .before .before .before .before .before .before .before .before .before .before .before .before .before .before .before .before .before .args .m .now) blk (c .before .before .before .before .before .before .before .before .before .before .before .before .before .before .before .before .before .table-span2 .result) (c .before .before .before .before .before .before .before .before .before .before .before .before .before .before .before .before .before .table-span2 .ensures), c .before .before .before .before .before .before .before .before .before .before .before .before .before .before .before .before .before .before .before .before .before .before .before .pre .fits)
 
 mul-check-nest-3 : tie.Need-mul-check-nest-3
 mul-check-nest-3 c =
-    omega (arith, table-end (c .before .before .before .before .before .before .before .before .before .before .before .before .before .before .before .before .before .before .before .before .before .before .before .args .l) (c .before .before .before .before .before .before .before .before .before .before .before .before .before .before .before .before .before .before .before .before .before .before .before .args .m .now) reg (c .before .before .before .before .before .before .before .before .before .before .before .before .before .before .before .table-span3 .result) (c .before .before .before .before .before .before .before .before .before .before .before .before .before .before .before .table-span3 .ensures), small-total (c .before .before .before .before .before .before .before .before .before .before .before .before .before .before .before .before .before .before .before .before .before .before .before .pre .caps))
+    omega (arith, table-end (c .before .before .before .before .before .before .before .before .before .before .before .before .before .before .before .before .before .before .before .before .before .before .before .before .args .l) (c .before .before .before .before .before .before .before .before .before .before .before .before .before .before .before .before .before .before .before .before .before .before .before .before .args .m .now) reg (c .before .before .before .before .before .before .before .before .before .before .before .before .before .before .before .table-span3 .result) (c .before .before .before .before .before .before .before .before .before .before .before .before .before .before .before .table-span3 .ensures), small-total (c .before .before .before .before .before .before .before .before .before .before .before .before .before .before .before .before .before .before .before .before .before .before .before .before .pre .caps))
 
 sub-check-nest-3 : tie.Need-sub-check-nest-3
 sub-check-nest-3 c = search needs
@@ -136,11 +143,11 @@ part-check-nest-start-3 c = search needs
 
 part-check-nest-end-3 : tie.Need-part-check-nest-end-3
 part-check-nest-end-3 c =
-    omega (arith, table-end (c .before .before .before .before .before .before .before .before .before .before .before .before .before .before .before .before .before .before .before .before .before .before .before .args .l) (c .before .before .before .before .before .before .before .before .before .before .before .before .before .before .before .before .before .before .before .before .before .before .before .args .m .now) reg (c .before .before .before .before .before .before .before .before .before .before .before .before .before .before .before .table-span3 .result) (c .before .before .before .before .before .before .before .before .before .before .before .before .before .before .before .table-span3 .ensures), c .before .before .before .before .before .before .before .before .before .before .before .before .before .before .before .before .before .before .before .before .before .before .before .pre .fits)
+    omega (arith, table-end (c .before .before .before .before .before .before .before .before .before .before .before .before .before .before .before .before .before .before .before .before .before .before .before .before .args .l) (c .before .before .before .before .before .before .before .before .before .before .before .before .before .before .before .before .before .before .before .before .before .before .before .before .args .m .now) reg (c .before .before .before .before .before .before .before .before .before .before .before .before .before .before .before .table-span3 .result) (c .before .before .before .before .before .before .before .before .before .before .before .before .before .before .before .table-span3 .ensures), c .before .before .before .before .before .before .before .before .before .before .before .before .before .before .before .before .before .before .before .before .before .before .before .before .pre .fits)
 
 mul-check-nest-4 : tie.Need-mul-check-nest-4
 mul-check-nest-4 c =
-    omega (arith, c .before .before .before .before .before .before .before .before .before .before .family-span2 .ensures .fits, small-total (c .before .before .before .before .before .before .before .before .before .before .before .before .before .before .before .before .before .before .before .before .before .before .before .before .pre .caps))
+    omega (arith, c .before .before .before .before .before .before .before .before .before .before .family-span2 .ensures .fits, small-total (c .before .before .before .before .before .before .before .before .before .before .before .before .before .before .before .before .before .before .before .before .before .before .before .before .before .pre .caps))
 
 sub-check-nest-4 : tie.Need-sub-check-nest-4
 sub-check-nest-4 c = search needs
@@ -150,11 +157,11 @@ part-check-nest-start-4 c = search needs
 
 part-check-nest-end-4 : tie.Need-part-check-nest-end-4
 part-check-nest-end-4 c =
-    omega (arith, c .before .before .before .before .before .before .before .before .before .before .family-span2 .ensures .fits, c .before .before .before .before .before .before .before .before .before .before .before .before .before .before .before .before .before .before .before .before .before .before .before .before .pre .fits)
+    omega (arith, c .before .before .before .before .before .before .before .before .before .before .family-span2 .ensures .fits, c .before .before .before .before .before .before .before .before .before .before .before .before .before .before .before .before .before .before .before .before .before .before .before .before .before .pre .fits)
 
 mul-check-nest-5 : tie.Need-mul-check-nest-5
 mul-check-nest-5 c =
-    omega (arith, c .before .before .before .before .before .before .before .before .family-span3 .ensures .fits, small-total (c .before .before .before .before .before .before .before .before .before .before .before .before .before .before .before .before .before .before .before .before .before .before .before .before .before .pre .caps))
+    omega (arith, c .before .before .before .before .before .before .before .before .family-span3 .ensures .fits, small-total (c .before .before .before .before .before .before .before .before .before .before .before .before .before .before .before .before .before .before .before .before .before .before .before .before .before .before .pre .caps))
 
 sub-check-nest-5 : tie.Need-sub-check-nest-5
 sub-check-nest-5 c = search needs
@@ -164,11 +171,11 @@ part-check-nest-start-5 c = search needs
 
 part-check-nest-end-5 : tie.Need-part-check-nest-end-5
 part-check-nest-end-5 c =
-    omega (arith, c .before .before .before .before .before .before .before .before .family-span3 .ensures .fits, c .before .before .before .before .before .before .before .before .before .before .before .before .before .before .before .before .before .before .before .before .before .before .before .before .before .pre .fits)
+    omega (arith, c .before .before .before .before .before .before .before .before .family-span3 .ensures .fits, c .before .before .before .before .before .before .before .before .before .before .before .before .before .before .before .before .before .before .before .before .before .before .before .before .before .before .pre .fits)
 
 mul-check-nest-6 : tie.Need-mul-check-nest-6
 mul-check-nest-6 c =
-    omega (arith, c .before .before .before .before .before .before .before .before .before .before .before .before .before .before .before .family-span .ensures .fits, small-total (c .before .before .before .before .before .before .before .before .before .before .before .before .before .before .before .before .before .before .before .before .before .before .before .before .before .before .pre .caps))
+    omega (arith, c .before .before .before .before .before .before .before .before .before .before .before .before .before .before .before .family-span .ensures .fits, small-total (c .before .before .before .before .before .before .before .before .before .before .before .before .before .before .before .before .before .before .before .before .before .before .before .before .before .before .before .pre .caps))
 
 sub-check-nest-6 : tie.Need-sub-check-nest-6
 sub-check-nest-6 c = search needs
@@ -178,11 +185,11 @@ part-check-nest-start-6 c = search needs
 
 part-check-nest-end-6 : tie.Need-part-check-nest-end-6
 part-check-nest-end-6 c =
-    omega (arith, c .before .before .before .before .before .before .before .before .before .before .before .before .before .before .before .family-span .ensures .fits, c .before .before .before .before .before .before .before .before .before .before .before .before .before .before .before .before .before .before .before .before .before .before .before .before .before .before .pre .fits)
+    omega (arith, c .before .before .before .before .before .before .before .before .before .before .before .before .before .before .before .family-span .ensures .fits, c .before .before .before .before .before .before .before .before .before .before .before .before .before .before .before .before .before .before .before .before .before .before .before .before .before .before .before .pre .fits)
 
 mul-check-nest-7 : tie.Need-mul-check-nest-7
 mul-check-nest-7 c =
-    omega (arith, c .before .before .before .before .before .before .before .flags-at .ensures .fits, small-total (c .before .before .before .before .before .before .before .before .before .before .before .before .before .before .before .before .before .before .before .before .before .before .before .before .before .before .before .pre .caps))
+    omega (arith, c .before .before .before .before .before .before .before .flags-at .ensures .fits, small-total (c .before .before .before .before .before .before .before .before .before .before .before .before .before .before .before .before .before .before .before .before .before .before .before .before .before .before .before .before .pre .caps))
 
 sub-check-nest-7 : tie.Need-sub-check-nest-7
 sub-check-nest-7 c = search needs
@@ -192,20 +199,21 @@ part-check-nest-start-7 c = search needs
 
 part-check-nest-end-7 : tie.Need-part-check-nest-end-7
 part-check-nest-end-7 c =
-    omega (arith, c .before .before .before .before .before .before .before .flags-at .ensures .fits, c .before .before .before .before .before .before .before .before .before .before .before .before .before .before .before .before .before .before .before .before .before .before .before .before .before .before .before .pre .fits, c .before .before .before .before .before .before .before .before .before .before .before .before .before .before .before .before .before .before .before .before .before .before .before .before .before .table-span .ensures .capacity)
+    omega (arith, c .before .before .before .before .before .before .before .flags-at .ensures .fits, c .before .before .before .before .before .before .before .before .before .before .before .before .before .before .before .before .before .before .before .before .before .before .before .before .before .before .before .before .pre .fits, c .before .before .before .before .before .before .before .before .before .before .before .before .before .before .before .before .before .before .before .before .before .before .before .before .before .table-span .ensures .capacity)
 
 check-nest-requires : tie.Need-check-nest-requires
 check-nest-requires c κs =
-    nest-asked (c .before .before .before .before .before .before .before .before .before .before .before .before .before .before .before .before .before .before .before .before .before .before .before .before .before .before .before .before .pre) (c .before .before .before .before .before .before .before .before .before .before .before .before .before .before .before .before .before .before .before .before .before .before .before .before .before .before .table-span .result) (c .before .before .before .before .before .before .before .before .before .before .before .before .before .before .before .before .before .before .before .before .before .before .before .table-span2 .result) (c .before .before .before .before .before .before .before .before .before .before .before .before .before .before .before .before .before .before .before .before .before .before .before .before .before .before .table-span .ensures) (c .before .before .before .before .before .before .before .before .before .before .before .before .before .before .before .before .before .before .before .before .before .before .before .table-span2 .ensures) (c .before .before .before .before .before .before .before .before .before .before .before .before .before .before .before .before .before .before .before .before .table-span3 .result) (c .before .before .before .before .before .before .before .before .before .before .before .before .before .before .before .before .before .family-span .result) (c .before .before .before .before .before .before .before .before .before .before .before .before .before .before .family-span2 .result) (c .before .before .before .before .before .before .before .before .before .before .before .family-span3 .result) (c .before .before .before .before .before .before .before .before .flags-at .result) (c .before .before .before .before .before .before .before .before .before .before .before .before .before .before .before .before .before .before .before .before .table-span3 .ensures) (c .before .before .before .before .before .before .before .before .before .before .before .before .before .before .before .before .before .family-span .ensures) (c .before .before .before .before .before .before .before .before .before .before .before .before .before .before .family-span2 .ensures) (c .before .before .before .before .before .before .before .before .before .before .before .family-span3 .ensures) (c .before .before .before .before .before .before .before .before .flags-at .ensures)
+    nest-asked (c .before .before .before .before .before .before .before .before .before .before .before .before .before .before .before .before .before .before .before .before .before .before .before .before .before .before .before .before .before .pre) (c .before .before .before .before .before .before .before .before .before .before .before .before .before .before .before .before .before .before .before .before .before .before .before .before .before .before .table-span .result) (c .before .before .before .before .before .before .before .before .before .before .before .before .before .before .before .before .before .before .before .before .before .before .before .table-span2 .result) (c .before .before .before .before .before .before .before .before .before .before .before .before .before .before .before .before .before .before .before .before .before .before .before .before .before .before .table-span .ensures) (c .before .before .before .before .before .before .before .before .before .before .before .before .before .before .before .before .before .before .before .before .before .before .before .table-span2 .ensures) (c .before .before .before .before .before .before .before .before .before .before .before .before .before .before .before .before .before .before .before .before .table-span3 .result) (c .before .before .before .before .before .before .before .before .before .before .before .before .before .before .before .before .before .family-span .result) (c .before .before .before .before .before .before .before .before .before .before .before .before .before .before .family-span2 .result) (c .before .before .before .before .before .before .before .before .before .before .before .family-span3 .result) (c .before .before .before .before .before .before .before .before .flags-at .result) (c .before .before .before .before .before .before .before .before .before .before .before .before .before .before .before .before .before .before .before .before .table-span3 .ensures) (c .before .before .before .before .before .before .before .before .before .before .before .before .before .before .before .before .before .family-span .ensures) (c .before .before .before .before .before .before .before .before .before .before .before .before .before .before .family-span2 .ensures) (c .before .before .before .before .before .before .before .before .before .before .before .family-span3 .ensures) (c .before .before .before .before .before .before .before .before .flags-at .ensures) (c .before .before .before .before .before .before .before .before .before .before .before .before .before .before .before .before .before .before .before .before .before .before .before .before .before .before .before .live-count .result) (c .before .before .before .before .before .before .before .before .before .before .before .before .before .before .before .before .before .before .before .before .before .before .before .before .before .before .before .live-count .ensures)
 
 returns : tie.Need-returns
 returns c =
-    nest-say (c .before .before .before .before .before .before .before .before .before .before .before .before .before .before .before .before .before .before .before .before .before .before .before .before .before .before .before .before .before .pre) (c .before .before .before .before .before .before .before .before .before .before .before .before .before .before .before .before .before .before .before .before .before .before .before .before .before .before .before .table-span .result) (c .before .before .before .before .before .before .before .before .before .before .before .before .before .before .before .before .before .before .before .before .before .before .before .before .table-span2 .result) (c .before .before .before .before .before .before .before .before .before .before .before .before .before .before .before .before .before .before .before .before .before .before .before .before .before .before .before .table-span .ensures) (c .before .before .before .before .before .before .before .before .before .before .before .before .before .before .before .before .before .before .before .before .before .before .before .before .table-span2 .ensures) (c .before .before .before .before .before .before .before .before .before .before .before .before .before .before .before .before .before .before .before .before .before .table-span3 .result) (c .before .before .before .before .before .before .before .before .before .before .before .before .before .before .before .before .before .before .family-span .result) (c .before .before .before .before .before .before .before .before .before .before .before .before .before .before .before .family-span2 .result) (c .before .before .before .before .before .before .before .before .before .before .before .before .family-span3 .result) (c .before .before .before .before .before .before .before .before .before .flags-at .result) (c .before .before .before .before .before .before .before .before .before .before .before .before .before .before .before .before .before .before .before .before .before .table-span3 .ensures) (c .before .before .before .before .before .before .before .before .before .before .before .before .before .before .before .before .before .before .family-span .ensures) (c .before .before .before .before .before .before .before .before .before .before .before .before .before .before .before .family-span2 .ensures) (c .before .before .before .before .before .before .before .before .before .before .before .before .family-span3 .ensures) (c .before .before .before .before .before .before .before .before .before .flags-at .ensures) (c .check-nest .result) (c .check-nest .ensures)
+    nest-say (c .before .before .before .before .before .before .before .before .before .before .before .before .before .before .before .before .before .before .before .before .before .before .before .before .before .before .before .before .before .before .pre) (c .before .before .before .before .before .before .before .before .before .before .before .before .before .before .before .before .before .before .before .before .before .before .before .before .before .before .before .table-span .result) (c .before .before .before .before .before .before .before .before .before .before .before .before .before .before .before .before .before .before .before .before .before .before .before .before .table-span2 .result) (c .before .before .before .before .before .before .before .before .before .before .before .before .before .before .before .before .before .before .before .before .before .before .before .before .before .before .before .table-span .ensures) (c .before .before .before .before .before .before .before .before .before .before .before .before .before .before .before .before .before .before .before .before .before .before .before .before .table-span2 .ensures) (c .before .before .before .before .before .before .before .before .before .before .before .before .before .before .before .before .before .before .before .before .before .table-span3 .result) (c .before .before .before .before .before .before .before .before .before .before .before .before .before .before .before .before .before .before .family-span .result) (c .before .before .before .before .before .before .before .before .before .before .before .before .before .before .before .family-span2 .result) (c .before .before .before .before .before .before .before .before .before .before .before .before .family-span3 .result) (c .before .before .before .before .before .before .before .before .before .flags-at .result) (c .before .before .before .before .before .before .before .before .before .before .before .before .before .before .before .before .before .before .before .before .before .table-span3 .ensures) (c .before .before .before .before .before .before .before .before .before .before .before .before .before .before .before .before .before .before .family-span .ensures) (c .before .before .before .before .before .before .before .before .before .before .before .before .before .before .before .family-span2 .ensures) (c .before .before .before .before .before .before .before .before .before .before .before .before .family-span3 .ensures) (c .before .before .before .before .before .before .before .before .before .flags-at .ensures) (c .check-nest .result) (c .check-nest .ensures)
 
 pub cross-nest-spec : {M : Type 1} → statement M
 cross-nest-spec =
     tie.close
     (tie.spec
+    live-count-requires
     table-span-requires
     add-eo
     add-eo-2

@@ -42,27 +42,21 @@ check-flags-requires c κs = search needs
 returns-6 : tie.Need-returns-6
 returns-6 c = let a = c .before .before .before .before .before .before .before .before .before .before .before .before .before .before .before .before .before .before .before .args in λ W. says-no (c .before .check-flags .result) (Flags (a .o) (a .to .now) (a .flags .now)) (c .if6 .taken) (c .before .check-flags .ensures) (W .flags)
 
-shared-slice-read-wide : tie.Need-shared-slice-read-wide
-shared-slice-read-wide c = search needs
-
-wide-requires : tie.Need-wide-requires
-wide-requires c κs = search needs
-
 check-climbs-requires : tie.Need-check-climbs-requires
 check-climbs-requires c κs = search needs
 
 returns-7 : tie.Need-returns-7
-returns-7 c = let a = c .before .before .before .before .before .before .before .before .before .before .before .before .before .before .before .before .before .before .before .before .before .before .before .args in λ W. says-no (c .before .check-climbs .result) (Climbs (a .o) (a .b) (a .r) (a .to .now) (a .ops .now) (a .blocks .now) (a .regions .now) (c .before .before .wide .result)) (c .if7 .taken) (c .before .check-climbs .ensures) (subst (λ (n : ℕ). Climbs (a .o) (a .b) (a .r) (a .to .now) (a .ops .now) (a .blocks .now) (a .regions .now) n) (sym (c .before .before .wide .ensures)) (W .climbs))
+returns-7 c = let a = c .before .before .before .before .before .before .before .before .before .before .before .before .before .before .before .before .before .before .before .before .before .args in λ W. says-no (c .before .check-climbs .result) (Climbs (a .o) (a .b) (a .r) (a .to .now) (a .ops .now) (a .blocks .now) (a .regions .now) (a .n)) (c .if7 .taken) (c .before .check-climbs .ensures) (subst (λ (n : ℕ). Climbs (a .o) (a .b) (a .r) (a .to .now) (a .ops .now) (a .blocks .now) (a .regions .now) n) (sym (c .before .before .before .before .before .before .before .before .before .before .before .before .before .before .before .before .before .before .before .before .before .pre .alive)) (W .climbs))
 
 returns-8 : tie.Need-returns-8
-returns-8 c = let a = c .before .before .before .before .before .before .before .before .before .before .before .before .before .before .before .before .before .before .before .before .before .before .before .args in record {
-  regs = says-yes (c .before .before .before .before .before .before .before .before .before .before .before .before .before .before .before .check-direct .result) (Direct (a .o) (a .r) (a .regions .now) (a .tr .now) (a .to .now)) (c .before .before .before .before .before .before .before .before .before .before .before .before .before .before .if1 .left) (c .before .before .before .before .before .before .before .before .before .before .before .before .before .before .before .check-direct .ensures);
-  must = says-yes (c .before .before .before .before .before .before .before .before .before .before .before .before .before .check-must .result) (Must (a .o) (a .r) (a .regions .now) (a .tr .now)) (c .before .before .before .before .before .before .before .before .before .before .before .before .if2 .left) (c .before .before .before .before .before .before .before .before .before .before .before .before .before .check-must .ensures);
-  short = says-yes (c .before .before .before .before .before .before .before .before .before .before .before .check-short .result) (Short (a .o) (a .r) (a .regions .now)) (c .before .before .before .before .before .before .before .before .before .before .if3 .left) (c .before .before .before .before .before .before .before .before .before .before .before .check-short .ensures);
-  ops = says-yes (c .before .before .before .before .before .before .before .before .before .check-direct2 .result) (Direct (a .b) (a .o) (a .ops .now) (a .to .now) (a .tb .now)) (c .before .before .before .before .before .before .before .before .if4 .left) (c .before .before .before .before .before .before .before .before .before .check-direct2 .ensures);
-  blocks = says-yes (c .before .before .before .before .before .before .before .check-direct3 .result) (Direct (a .r) (a .b) (a .blocks .now) (a .tb .now) (a .tr .now)) (c .before .before .before .before .before .before .if5 .left) (c .before .before .before .before .before .before .before .check-direct3 .ensures);
-  flags = says-yes (c .before .before .before .before .before .check-flags .result) (Flags (a .o) (a .to .now) (a .flags .now)) (c .before .before .before .before .if6 .left) (c .before .before .before .before .before .check-flags .ensures);
-  climbs = subst (λ (n : ℕ). Climbs (a .o) (a .b) (a .r) (a .to .now) (a .ops .now) (a .blocks .now) (a .regions .now) n) (c .before .before .wide .ensures) (says-yes (c .before .check-climbs .result) (Climbs (a .o) (a .b) (a .r) (a .to .now) (a .ops .now) (a .blocks .now) (a .regions .now) (c .before .before .wide .result)) (c .if7 .left) (c .before .check-climbs .ensures));
+returns-8 c = let a = c .before .before .before .before .before .before .before .before .before .before .before .before .before .before .before .before .before .before .before .before .before .args in record {
+  regs = says-yes (c .before .before .before .before .before .before .before .before .before .before .before .before .before .check-direct .result) (Direct (a .o) (a .r) (a .regions .now) (a .tr .now) (a .to .now)) (c .before .before .before .before .before .before .before .before .before .before .before .before .if1 .left) (c .before .before .before .before .before .before .before .before .before .before .before .before .before .check-direct .ensures);
+  must = says-yes (c .before .before .before .before .before .before .before .before .before .before .before .check-must .result) (Must (a .o) (a .r) (a .regions .now) (a .tr .now)) (c .before .before .before .before .before .before .before .before .before .before .if2 .left) (c .before .before .before .before .before .before .before .before .before .before .before .check-must .ensures);
+  short = says-yes (c .before .before .before .before .before .before .before .before .before .check-short .result) (Short (a .o) (a .r) (a .regions .now)) (c .before .before .before .before .before .before .before .before .if3 .left) (c .before .before .before .before .before .before .before .before .before .check-short .ensures);
+  ops = says-yes (c .before .before .before .before .before .before .before .check-direct2 .result) (Direct (a .b) (a .o) (a .ops .now) (a .to .now) (a .tb .now)) (c .before .before .before .before .before .before .if4 .left) (c .before .before .before .before .before .before .before .check-direct2 .ensures);
+  blocks = says-yes (c .before .before .before .before .before .check-direct3 .result) (Direct (a .r) (a .b) (a .blocks .now) (a .tb .now) (a .tr .now)) (c .before .before .before .before .if5 .left) (c .before .before .before .before .before .check-direct3 .ensures);
+  flags = says-yes (c .before .before .before .check-flags .result) (Flags (a .o) (a .to .now) (a .flags .now)) (c .before .before .if6 .left) (c .before .before .before .check-flags .ensures);
+  climbs = subst (λ (n : ℕ). Climbs (a .o) (a .b) (a .r) (a .to .now) (a .ops .now) (a .blocks .now) (a .regions .now) n) (c .before .before .before .before .before .before .before .before .before .before .before .before .before .before .before .before .before .before .before .before .before .pre .alive) (says-yes (c .before .check-climbs .result) (Climbs (a .o) (a .b) (a .r) (a .to .now) (a .ops .now) (a .blocks .now) (a .regions .now) (a .n)) (c .if7 .left) (c .before .check-climbs .ensures));
 }
 
 pub check-nest-spec : {M : Type 1} → statement M
@@ -81,8 +75,6 @@ check-nest-spec =
     returns-5
     check-flags-requires
     returns-6
-    shared-slice-read-wide
-    wide-requires
     check-climbs-requires
     returns-7
     returns-8)

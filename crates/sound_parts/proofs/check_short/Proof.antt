@@ -1,7 +1,7 @@
 use Prim.Native.Nat.{ℕ, _-_, _<_, _≤_}
 use borrow.Author.Count.{below-more}
 use lib.ListN.{length}
-use Rattle.sound_parts.specs.Tests.{row}
+use Rattle.linked_list.specs.Links.{row}
 use borrow.Author.Needs.{needs}
 use native.Mathlib.Omega.{arith}
 use Rattle.sound_parts.proofs.check_short.Statement.{statement}

@@ -4,10 +4,10 @@ use Prim.Native.Nat.{ℕ, zero, _+_, _-_, _*_, _<_, _≤_}
 use lib.ListN.{length}
 use borrow.Author.Count.{below-more}
 use Rattle.table.proofs.Laws.{says-no, says-yes}
-use Rattle.linked_list.specs.Links.{Row}
-use Rattle.linked_list.proofs.Getters.{walk-step, code≤, at-ne}
-use Rattle.sound_parts.specs.Tests.{UseAt, SlotsAt, Slots, row}
-use Rattle.sound_parts.proofs.Laws.{UsesTo, uses-more, uses-all, too-long, unheld, says-of}
+use Rattle.linked_list.specs.Links.{Linked, row}
+use Rattle.linked_list.proofs.Getters.{code≤, at-ne}
+use Rattle.sound_parts.specs.Tests.{UseAt, SlotsAt, Slots}
+use Rattle.sound_parts.proofs.Laws.{UsesTo, uses-more, uses-all, too-long, unheld, says-of, step-along}
 use borrow.Author.Needs.{needs}
 use native.Mathlib.Omega.{arith}
 use Rattle.sound_parts.proofs.check_slots.Statement.{statement}
@@ -46,17 +46,15 @@ mul-loop c = search needs
 add-loop : tie.Need-add-loop Inv-loop2 μ-loop2 Inv-loop μ-loop Inv-search μ-search
 add-loop c = search needs
 
-mul-k : tie.Need-mul-k Inv-loop2 μ-loop2 Inv-loop μ-loop Inv-search μ-search
-mul-k c = search needs
+mul-get-head : tie.Need-mul-get-head Inv-loop2 μ-loop2 Inv-loop μ-loop Inv-search μ-search
+mul-get-head c = search needs
 
-shared-slice-read-k :
-    tie.Need-shared-slice-read-k Inv-loop2 μ-loop2 Inv-loop μ-loop Inv-search μ-search
-shared-slice-read-k c = search needs
+get-head-requires : tie.Need-get-head-requires Inv-loop2 μ-loop2 Inv-loop μ-loop Inv-search μ-search
+get-head-requires c κs = let s = c .before .before .before .before .before .before .before .before in (s .pre .1 .0 .0, (s .pre .1 .0 .1, omega arith))
 
 loop2-holds : tie.Need-loop2-holds Inv-loop2 μ-loop2 Inv-loop μ-loop Inv-search μ-search
-loop2-holds c = let a = c .before .before .before .before .before .before .before .before .before .args in let y = c .before .before .loop .c in
-    let R : Row (2 * a .o) (a .u) (a .slots .now) y (row (2 * a .o) (a .u) (a .slots .now) y) = c .before .before .before .before .before .before .before .before .before .pre .1 .0 .1 .row y (omega arith) in
-    (c .before .before .loop .inv .0, record { few = omega arith; within = omega arith; code = R .next zero (omega arith); small = code≤ R zero _ (R .next zero (omega arith)); uses = λ i x l. absurd (omega arith) })
+loop2-holds c = let s = c .before .before .before .before .before .before .before .before .before in let y = c .before .before .loop .c in let e = c .get-head .ensures in
+    (c .before .before .loop .inv .0, record { few = omega arith; within = omega arith; code = e; small = code≤ (s .pre .1 .0 .1 .row y (omega arith)) zero _ e; uses = λ i x l. absurd (omega arith) })
 
 wide-requires : tie.Need-wide-requires Inv-loop2 μ-loop2 Inv-loop μ-loop Inv-search μ-search
 wide-requires c κs = search needs
@@ -67,21 +65,11 @@ sub-x c = search needs
 use-at-requires : tie.Need-use-at-requires Inv-loop2 μ-loop2 Inv-loop μ-loop Inv-search μ-search
 use-at-requires c κs = (c .before .before .before .before .before .before .before .before .before .before .before .before .before .pre .0, (c .before .before .before .before .before .before .before .before .before .before .before .before .before .pre .1 .1, (omega arith, omega arith)))
 
-mul-k-2 : tie.Need-mul-k-2 Inv-loop2 μ-loop2 Inv-loop μ-loop Inv-search μ-search
-mul-k-2 c = search needs
+mul-get-next : tie.Need-mul-get-next Inv-loop2 μ-loop2 Inv-loop μ-loop Inv-search μ-search
+mul-get-next c = search needs
 
-mul-k-3 : tie.Need-mul-k-3 Inv-loop2 μ-loop2 Inv-loop μ-loop Inv-search μ-search
-mul-k-3 c = search needs
-
-add-k : tie.Need-add-k Inv-loop2 μ-loop2 Inv-loop μ-loop Inv-search μ-search
-add-k c = search needs
-
-mul-k-4 : tie.Need-mul-k-4 Inv-loop2 μ-loop2 Inv-loop μ-loop Inv-search μ-search
-mul-k-4 c = search needs
-
-shared-slice-read-k-2 :
-    tie.Need-shared-slice-read-k-2 Inv-loop2 μ-loop2 Inv-loop μ-loop Inv-search μ-search
-shared-slice-read-k-2 c = search needs
+get-next-requires : tie.Need-get-next-requires Inv-loop2 μ-loop2 Inv-loop μ-loop Inv-search μ-search
+get-next-requires c κs = let s = c .before .before .before .before .before .before .before .before .before .before .before .before .before .before .before in (s .pre .1 .0 .0, (s .pre .1 .0 .1, omega arith))
 
 add-j : tie.Need-add-j Inv-loop2 μ-loop2 Inv-loop μ-loop Inv-search μ-search
 add-j c = search needs
@@ -92,9 +80,9 @@ loop2-less c = let a = c .before .before .before .before .before .before .before
 
 loop2-again : tie.Need-loop2-again Inv-loop2 μ-loop2 Inv-loop μ-loop Inv-search μ-search
 loop2-again c = let a = c .before .before .before .before .before .before .before .before .before .before .before .before .before .before .before .before .args in let y = c .before .before .before .before .before .before .before .before .before .loop .c in let p = c .before .before .before .before .before .before .loop2 in let w = c .before .before .before .before .wide .result in
-    let R : Row (2 * a .o) (a .u) (a .slots .now) y (row (2 * a .o) (a .u) (a .slots .now) y) = c .before .before .before .before .before .before .before .before .before .before .before .before .before .before .before .before .pre .1 .0 .1 .row y (omega arith) in
-    let e = walk-step R (p .j) (p .k) w (p .inv .1 .code) (at-ne (row (2 * a .o) (a .u) (a .slots .now) y) (p .j) (p .k) (p .inv .1 .code) (c .before .before .before .before .before .loop2-test .taken)) (c .before .before .before .before .wide .ensures) in
-    (p .inv .0, uses-more (a .o) (a .b) (a .v) (a .u) (a .to .now) (a .tu .now) (a .slots .now) (a .sets .now) y (p .k) (p .j) w _ (p .inv .1) (c .before .before .before .before .before .loop2-test .taken) (omega arith) (c .before .before .before .before .wide .ensures) (says-yes (c .before .before .use-at .result) (UseAt (a .o) (a .b) (a .v) (a .u) (a .to .now) (a .tu .now) (a .sets .now) y (w - 1)) (c .before .if2 .left) (c .before .before .use-at .ensures)) e (code≤ R (p .j + 1) _ e))
+    let K : Linked (2 * a .o) (a .u) (a .slots .now) = c .before .before .before .before .before .before .before .before .before .before .before .before .before .before .before .before .pre .1 .0 .1 in let h : y < 2 * a .o = omega arith in
+    let e = step-along K y (p .j) (p .k) w (c .get-next .result) h (p .inv .1 .code) (c .before .before .before .before .before .loop2-test .taken) (c .before .before .before .before .wide .ensures) (c .get-next .ensures) in
+    (p .inv .0, uses-more (a .o) (a .b) (a .v) (a .u) (a .to .now) (a .tu .now) (a .slots .now) (a .sets .now) y (p .k) (p .j) w _ (p .inv .1) (c .before .before .before .before .before .loop2-test .taken) (omega arith) (c .before .before .before .before .wide .ensures) (says-yes (c .before .before .use-at .result) (UseAt (a .o) (a .b) (a .v) (a .u) (a .to .now) (a .tu .now) (a .sets .now) y (w - 1)) (c .before .if2 .left) (c .before .before .use-at .ensures)) e (code≤ (K .row y h) (p .j + 1) _ e))
 
 add-c : tie.Need-add-c Inv-loop2 μ-loop2 Inv-loop μ-loop Inv-search μ-search
 add-c c = search needs
@@ -141,17 +129,14 @@ check-slots-spec =
     loop-holds
     mul-loop
     add-loop
-    mul-k
-    shared-slice-read-k
+    mul-get-head
+    get-head-requires
     loop2-holds
     wide-requires
     sub-x
     use-at-requires
-    mul-k-2
-    mul-k-3
-    add-k
-    mul-k-4
-    shared-slice-read-k-2
+    mul-get-next
+    get-next-requires
     add-j
     loop2-less
     loop2-again

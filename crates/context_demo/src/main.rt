@@ -1,6 +1,6 @@
 // A store of small capacities, built by the primitives of `context`: a block with one argument and an operation with one result that reads
 // the argument twice; the operation comes into the block, one operand ends, and the operation's own result becomes an operand.
-// Prints the words of the store, part by part, and its listing.
+// Prints the words of the store, part by part, its listing, and the parts that the readers hand back.
 use bits::Found;
 use context::Layout;
 use libc::STDOUT_FILENO;
@@ -261,6 +261,53 @@ fn print_listing(m: &[u32], l: Layout)
     io::write_all(STDOUT_FILENO, &out[..e]);
 }
 
+// What a reader handed back: the numbers of the uses, or its refusal.
+fn tell_uses(what: &[u8], n: u32, part: &[u32], refusal: u32) {
+    say(what);
+    number(n);
+    if refusal != 0 {
+        say(b" no ");
+        number(refusal);
+        say(b"\n");
+        return;
+    }
+    words(part, 0, part.len());
+}
+
+// The uses of the value with this number.
+fn print_value(m: &[u32], n: u32) {
+    let mut out = [0u32; 2];
+    let mut refusal: u32 = 0;
+    let part = readers::value_uses(m, n, &mut out, &mut refusal);
+    tell_uses(b"uses of value ", n, part, refusal);
+}
+
+// The same with no room for any.
+fn print_short(m: &[u32], n: u32) {
+    let mut out = [0u32; 2];
+    let mut refusal: u32 = 0;
+    let part = readers::value_uses(m, n, &mut out[..0], &mut refusal);
+    tell_uses(b"no room for uses of value ", n, part, refusal);
+}
+
+// The uses of the block with this number.
+fn print_block(m: &[u32], n: u32) {
+    let mut out = [0u32; 2];
+    let mut refusal: u32 = 0;
+    let part = readers::block_uses(m, n, &mut out, &mut refusal);
+    tell_uses(b"uses of block ", n, part, refusal);
+}
+
+// Those of both values and of the block, and each refusal.
+fn print_uses(m: &[u32]) {
+    print_value(m, 0);
+    print_value(m, 1);
+    print_value(m, 2);
+    print_short(m, 0);
+    print_block(m, 0);
+    print_block(m, 1);
+}
+
 // A block with one argument.
 fn make_block(m: &mut [u32], l: Layout)
     requires { ⌜ SoundStore l (now m) ⌝ }
@@ -321,4 +368,5 @@ fn main() {
     change(&mut store, l);
     print_words(&store, l);
     print_listing(&store, l);
+    print_uses(&store);
 }

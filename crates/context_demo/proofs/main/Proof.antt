@@ -47,6 +47,12 @@ slice-aggregate-print-listing c = search needs
 print-listing-requires : tie.Need-print-listing-requires
 print-listing-requires c κs = search needs
 
+slice-aggregate-print-uses : tie.Need-slice-aggregate-print-uses
+slice-aggregate-print-uses c = search needs
+
+print-uses-requires : tie.Need-print-uses-requires
+print-uses-requires c κs = search needs
+
 returns-2 : tie.Need-returns-2
 returns-2 c = search needs
 
@@ -69,4 +75,6 @@ main-spec =
     print-words-requires
     slice-aggregate-print-listing
     print-listing-requires
+    slice-aggregate-print-uses
+    print-uses-requires
     returns-2)

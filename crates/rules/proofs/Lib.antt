@@ -28,3 +28,5 @@ pub mod Refined
 pub mod Verdicts
 pub mod Readings
 pub mod Worthless
+pub mod Lengths
+pub mod OutputFits

@@ -54,7 +54,8 @@ unfolding tally same-definition
 no-values b [] = refl
 no-values b (x ∷ xs) = omega (arith, no-values b xs)
 
-count-lists : {A : Type 0} (g : A → List ℕ) (v : ℕ) (t : Table A) → count v (concat (map g (items t))) ≡ spread g v t
+-- how often a number stands in all the lists that g takes from a table
+pub count-lists : {A : Type 0} (g : A → List ℕ) (v : ℕ) (t : Table A) → count v (concat (map g (items t))) ≡ spread g v t
 unfolding concat items
 count-lists g v [] = refl
 count-lists g v (e ∷ t) = omega (arith, count-append v (g (e .1)) (concat (map g (items t))), count-lists g v t)
@@ -119,6 +120,19 @@ sum-one u a t (d ∷ ds) = go (same-definition d a) (sum-one u a t ds)
 pub sum-all : (ds : List Definition) (t : Table Definition) → Every (λ a. tally a ds ≡ 1) t → sum-over (λ d. length (keys-where (same-definition d) t)) ds ≡ length t
 sum-all ds [] w = sum-none ds
 sum-all ds (e ∷ t) w = omega (arith, sum-one (e .0) (e .1) t ds, sum-all ds t (w .1), w .0)
+
+-- and where no definition is counted twice, they are no more than the uses
+pub sum-most : (ds : List Definition) → ((d : Definition) → tally d ds ≤ 1) → (t : Table Definition) → sum-over (λ d. length (keys-where (same-definition d) t)) ds ≤ length t
+sum-most ds k [] = omega (arith, sum-none ds)
+sum-most ds k (e ∷ t) = omega (arith, sum-one (e .0) (e .1) t ds, sum-most ds k t, k (e .1))
+
+pub values-once : (xs : List ℕ) → ((v : ℕ) → count v xs ≤ 1) → (d : Definition) → tally d (map of-value xs) ≤ 1
+values-once xs k (of-value v) = omega (arith, tally-values v xs, k v)
+values-once xs k (of-block b) = omega (arith, no-values b xs)
+
+pub blocks-once : (xs : List ℕ) → ((b : ℕ) → count b xs ≤ 1) → (d : Definition) → tally d (map of-block xs) ≤ 1
+blocks-once xs k (of-value v) = omega (arith, no-blocks v xs)
+blocks-once xs k (of-block b) = omega (arith, tally-blocks b xs, k b)
 
 pub sum-uses : (h : History) → Held h → ((d : Definition) → tally d (all-definitions h) ≡ one (live-definition h d)) → sum-over (λ d. length (uses-of h d)) (all-definitions h) ≡ length (h .uses)
 unfolding uses-of

@@ -84,7 +84,7 @@ unfolding least
 predecessor-fields fs p = record { fixed = p .fixed; most = ltb-false 258 (length fs) (sym (blocks-over fs) ∙ p .limits) }
 
 -- a kind without lists has as many fields as the table says
-pub fixed-fields : (k : ℕ) (fs : List ℕ) → (k ≡ 1 → ⊥) → (k ≡ 2 → ⊥) → (k ≡ 34 → ⊥) → (k ≡ 35 → ⊥) → Passed k fs → length fs ≡ getD least k 0
+pub fixed-fields : (k : ℕ) (fs : List ℕ) → (k ≡ 1 → ⊥) → (k ≡ 2 → ⊥) → (k ≡ 34 → ⊥) → (k ≡ 35 → ⊥) → Passed k fs → length fs ≡ getD least (k - 1) 0
 fixed-fields k fs d₁ d₂ d₃ d₄ p = p .full ∙ filled-fixed fs k d₁ d₂ d₃ d₄
 
 -- ---- listed numbers

@@ -2,7 +2,7 @@
 use mathlib.Core.Path.{_≡_, refl, sym, ap, subst, _∙_}
 use mathlib.Core.Bool.{Bool, true, false, _||_}
 use mathlib.Core.List.{List}
-use Prim.Native.Nat.{ℕ, zero, suc, _+_, _≤_, _<_}
+use Prim.Native.Nat.{ℕ, zero, suc, _+_, _-_, _≤_, _<_}
 use native.Mathlib.Omega.{arith}
 use borrow.Author.Tests.{lt-ltb, le-ltb, eq-eqb, ne-eqb}
 use lib.Dec.{eqb, ltb}
@@ -78,7 +78,7 @@ module _ (fs : List ℕ) where
     unfolding over
     over-none = simp (ne-eqb kind 1 not-1, ne-eqb kind 2 not-2, lists-nothing)
 
-    pub filled-fixed : filled fs kind ≡ getD least kind 0
+    pub filled-fixed : filled fs kind ≡ getD least (kind - 1) 0
     unfolding filled
     filled-fixed = rw (ne-eqb kind 1 not-1, ne-eqb kind 2 not-2, lists-nothing, filled)
 
@@ -96,23 +96,23 @@ module _ (kind : ℕ) (fs : List ℕ) where
   kind-large d h = rw (ne-eqb kind 0 d, lt-ltb 44 kind h, read)
 
   module _ (d : kind ≡ 0 → ⊥) (h : kind ≤ 44) where
-    pub too-few : length fs < getD least kind 0 → read kind fs ≡ refused 3
+    pub too-few : length fs < getD least (kind - 1) 0 → read kind fs ≡ refused 3
     unfolding read
-    too-few l = rw (known d h, lt-ltb (length fs) (getD least kind 0) l, read)
+    too-few l = rw (known d h, lt-ltb (length fs) (getD least (kind - 1) 0) l, read)
 
-    module _ (enough : getD least kind 0 ≤ length fs) where
+    module _ (enough : getD least (kind - 1) 0 ≤ length fs) where
       pub over-limit : over fs kind ≡ true → read kind fs ≡ refused 4
       unfolding read
-      over-limit o = rw (known d h, le-ltb (length fs) (getD least kind 0) enough, o, read)
+      over-limit o = rw (known d h, le-ltb (length fs) (getD least (kind - 1) 0) enough, o, read)
 
       module _ (o : over fs kind ≡ false) where
         pub not-full : (length fs ≡ filled fs kind → ⊥) → read kind fs ≡ refused 3
         unfolding read
-        not-full n = rw (known d h, le-ltb (length fs) (getD least kind 0) enough, o, ne-eqb (length fs) (filled fs kind) n, read)
+        not-full n = rw (known d h, le-ltb (length fs) (getD least (kind - 1) 0) enough, o, ne-eqb (length fs) (filled fs kind) n, read)
 
         pub read-edit : length fs ≡ filled fs kind → read kind fs ≡ asks (edit-of kind fs)
         unfolding read edit-of
-        read-edit e = rw (known d h, le-ltb (length fs) (getD least kind 0) enough, o, eq-eqb (length fs) (filled fs kind) e, read)
+        read-edit e = rw (known d h, le-ltb (length fs) (getD least (kind - 1) 0) enough, o, eq-eqb (length fs) (filled fs kind) e, read)
 
 -- ---- as the function's promise
 pub at-least-one : (n : ℕ) → (n ≡ 0 → ⊥) → 1 ≤ n

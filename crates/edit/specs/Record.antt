@@ -78,10 +78,10 @@ cut (a ∷ b ∷ c ∷ d ∷ r) =
     let n : ℕ = a + 256 * b in
     elim (length-ok n (4 + length r)) [ true ↦ whole (c + 256 * d) (words (take (n - 4) r)) (drop (n - 4) r) | false ↦ broken ]
 
--- how many fixed fields each kind has, by kind; there is no kind 0
+-- how many fixed fields each kind has, from kind 1 on
 unfoldable pub least : List ℕ
 least =
-    0 ∷ 5 ∷ 1
+    5 ∷ 1
     ∷ 2 ∷ 3 ∷ 3 ∷ 2 ∷ 1 ∷ 2 ∷ 3 ∷ 3 ∷ 2 ∷ 1
     ∷ 2 ∷ 3 ∷ 2 ∷ 1 ∷ 2 ∷ 3 ∷ 2 ∷ 1
     ∷ 2 ∷ 2 ∷ 2 ∷ 2 ∷ 1 ∷ 2 ∷ 2 ∷ 2 ∷ 2 ∷ 1
@@ -113,7 +113,7 @@ module _ (fs : List ℕ) where
           | true ↦ 1 + field 0
           | false ↦ elim (eqb kind 34 || eqb kind 35) [
             | true ↦ length fs
-            | false ↦ getD least kind 0
+            | false ↦ getD least (kind - 1) 0
           ]
         ]
       ]
@@ -177,7 +177,7 @@ unfoldable pub read : ℕ → List ℕ → Read
 read kind fs =
     elim (eqb kind 0 || ltb 44 kind) [
       | true ↦ refused 2
-      | false ↦ elim (ltb (length fs) (getD least kind 0)) [
+      | false ↦ elim (ltb (length fs) (getD least (kind - 1) 0)) [
         | true ↦ refused 3
         | false ↦ elim (over fs kind) [
           | true ↦ refused 4

@@ -58,7 +58,7 @@ read-of fs (Asks kind) = asks (edit-of kind fs)
 pub record Passed (kind : ℕ) (fs : List ℕ) : Type 0 where
   pub from : 1 ≤ kind
   pub to : kind ≤ 44
-  pub fixed : getD least kind 0 ≤ length fs
+  pub fixed : getD least (kind - 1) 0 ≤ length fs
   pub limits : over fs kind ≡ false
   pub full : length fs ≡ filled fs kind
 

@@ -4,7 +4,7 @@
 // bytes requires anything of them: what is wrong with a record is an answer.
 ghost use mathlib.Core.Path.{_≡_};
 ghost use mathlib.Core.Bool.{true, false};
-ghost use Prim.Native.Nat.{_+_, _*_, _≤_, _<_};
+ghost use Prim.Native.Nat.{_+_, _-_, _*_, _≤_, _<_};
 ghost use lib.ListN.{length, getD};
 ghost use Rattle.edit.specs.Answer.{Put, numbers, numbers-of};
 ghost use Rattle.edit.specs.Record.{least, over, filled};
@@ -40,10 +40,8 @@ const MOST_ENTRIES: u32 = 64;
 // The most fields of a record that lists numbers: two, and 256 listed.
 const MOST_FIELDS: usize = 258;
 
-// The least field count of each kind, by kind.
-const LEAST: [u8; 45] = [
-    // no kind 0
-    0,
+// The least field count of each kind, from kind 1 on.
+const LEAST: [u8; 44] = [
     // new operation, new block
     5,
     1,
@@ -188,10 +186,11 @@ pub fn field(rec: &[u8], i: usize) -> u32
 }
 
 fn least_fields(kind: usize) -> usize
-    requires { ⌜ kind < 45 ⌝ }
-    ensures { λ r. ⌜ r ≡ getD least kind 0 ⌝ }
+    requires { ⌜ 1 ≤ kind ⌝ }
+    requires { ⌜ kind ≤ 44 ⌝ }
+    ensures { λ r. ⌜ r ≡ getD least (kind - 1) 0 ⌝ }
 {
-    size(LEAST[kind])
+    size(LEAST[kind - 1])
 }
 
 // Whether the flags or a count of a new operation are over their limits.
@@ -234,7 +233,7 @@ fn is_over(rec: &[u8], kind: u32) -> bool
 
 // How many fields fill a record of this kind, whose least field count is `fixed`.
 fn filled_by(rec: &[u8], kind: u32, fixed: usize) -> usize
-    requires { ⌜ fixed ≡ getD least kind 0 ⌝ }
+    requires { ⌜ fixed ≡ getD least (kind - 1) 0 ⌝ }
     ensures { λ r. ⌜ r ≡ filled (fields-of (now (rec .entry))) kind ⌝ }
 {
     if kind == 1 {

@@ -92,7 +92,7 @@ small-edit fs kind (suc (suc n)) z k o = small-at (drop 2 (edits fs)) n (new-blo
 
 pub read-small : (kind : ℕ) (fs : List ℕ) (e : Edit) → read kind fs ≡ asks e → Small e
 unfolding read
-read-small kind fs e r = go (eqb kind 0) refl (ltb 44 kind) (ltb (length fs) (getD least kind 0)) (over fs kind) refl (eqb (length fs) (filled fs kind)) r
+read-small kind fs e r = go (eqb kind 0) refl (ltb 44 kind) (ltb (length fs) (getD least (kind - 1) 0)) (over fs kind) refl (eqb (length fs) (filled fs kind)) r
   where
     no : (n : ℕ) → refused n ≡ asks e → ⊥
     no n q = let z : _≡_ {A = ℕ} 0 1 = cc in omega arith

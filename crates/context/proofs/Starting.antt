@@ -1,15 +1,14 @@
 -- A memory of zeros with a header is an empty store. Assumes nothing.
 use mathlib.Core.Path.{_≡_, refl, sym, ap, _∙_}
-use mathlib.Core.Logic.{ite, by-cases}
+use mathlib.Core.Logic.{ite}
 use mathlib.Core.List.{List, [], _∷_}
 use mathlib.Core.Option.{Option, none}
 use Prim.Native.Nat.{ℕ, zero, suc, _+_, _≤_, _<_}
-use native.Mathlib.Decide.{ℕ-discrete}
 use native.Mathlib.Omega.{arith}
 use lib.ListN.{length, getD, set, take, drop, length-drop, length-set, replicate}
-use lib.Seq.{ext-getD, drop-drop, getD-take, getD-drop, getD-set-same, getD-set-other, length-take-le}
-use Rattle.seqs.specs.Split.{split, start}
-use Rattle.seqs.proofs.Parts.{start-first, part-long as long-part, part-zero as zero-part}
+use lib.Seq.{ext-getD, getD-take, getD-drop, getD-set-other, length-take-le}
+use Rattle.seqs.specs.Split.{split}
+use Rattle.seqs.proofs.Parts.{zero-more, rest-is, start-first, part-long as long-part, part-zero as zero-part}
 use Rattle.linked_list.specs.Links.{home, Emptied}
 use Rattle.linked_list.proofs.Moves.{emptied}
 use Rattle.bits.proofs.Digits.{all-clear}
@@ -141,11 +140,6 @@ past-head a b c d e m i h =
     ∙ getD-set-other m 0 i a 0 (omega arith)
 
 -- what lies past the parts
-rest-is : (ns m : List ℕ) → getD (split ns m) (length ns) [] ≡ drop (start ns (length ns)) m
-unfolding split
-rest-is [] m = refl
-rest-is (n ∷ ns) m = rest-is ns (drop n m) ∙ drop-drop (start ns (length ns)) n m
-
 past-kept : (l : Layout) (m m′ : List ℕ) → total l ≤ length m → length m′ ≡ length m → ((i : ℕ) → total l ≤ i → getD m′ i 0 ≡ getD m i 0) → part l m′ 14 ≡ part l m 14
 past-kept l m m′ fits long same =
     rest-is (sizes l) m′
@@ -171,6 +165,6 @@ pub zeroed-more : (i : ℕ) (m₀ m : List ℕ) → i < length m₀ → Zeroed i
 zeroed-more i m₀ m h Z =
     record {
       long = simp length-set (Z .long);
-      zero = λ j g. by-cases (ℕ-discrete j i) (λ e. rw e (getD-set-same m i 0 0 (omega (arith, Z .long)))) (λ n. getD-set-other m i j 0 0 n ∙ Z .zero j (omega arith));
+      zero = zero-more m i (omega (arith, Z .long)) (Z .zero);
       rest = λ j g. getD-set-other m i j 0 0 (omega arith) ∙ Z .rest j (omega arith);
     }

@@ -135,10 +135,3 @@ pub emptied : (nc nn : ℕ) (s : List ℕ) → length s ≡ 2 * nc + 3 * nn → 
 emptied nc nn s size z =
     let L = links-zero nc nn s size z in
     record { linked = rw (lists-is L) L; rows = lists-is L; homes = λ n h. z (home nc nn n) (omega arith) }
-
-pub zero-more : (s : List ℕ) (i : ℕ) → i < length s → ((j : ℕ) → j < i → getD s j 0 ≡ 0) → (j : ℕ) → j < i + 1 → getD (set s i 0) j 0 ≡ 0
-zero-more s i h all j k = go (ℕ-discrete j i)
-  where
-    go : Dec (j ≡ i) → getD (set s i 0) j 0 ≡ 0
-    go (yes e) = rw e (getD-set-same s i 0 0 h)
-    go (no f) = getD-set-other s i j 0 0 f ∙ all j (omega arith)

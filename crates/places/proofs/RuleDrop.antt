@@ -38,6 +38,18 @@ module _ {P : State} (S : Linked P) (p : Thing → ℕ) (closed : Closed p P) (n
       (λ o i. let s : (p (k, o) ≡ 0) × In ℕ-discrete o (P .tab k .order) = sift-in ℕ-discrete (λ q. p (k, q)) o (P .tab k .order) i in
       λ j. (num-cut S p closed n same (k, o) (s .0) j, (ap f (rec-cut S p closed n same (k, o) (s .0)) ∙ h o (s .1) (s .0)) j))
 
+-- an operation's uses: they are live, and the rules have their numbers
+module _ {P : State} (S : Linked P) where
+  pub live-uses : (y u : Thing) → In Thing-dec u (usesAt P y) → (u .0 ≡ usg) × Live P u
+  live-uses y u i = ⊎-elim (λ z. from successors (omega (arith, count-append Thing-dec u (P .list y operands) (P .list y successors)))) (λ z. from operands z) (zero-or (count Thing-dec u (P .list y operands)))
+    where
+      from : (r : Role) → In Thing-dec u (P .list y r) → (u .0 ≡ nodeOf r) × Live P u
+      from r j = let M : Link P u (fam r) (r, y) = S .link u (fam r) (r, y) (listed S u y r j) in (M .node, M .live)
+
+pub listed-uses : (P : State) (q : ℕ) → all-uses-in (opOf (recOf P (op, q))) ≡ map (num P) (usesAt P (op, q))
+unfolding all-uses-in recOf
+listed-uses P q = sym (map-append (num P) (P .list (op, q) operands) (P .list (op, q) successors))
+
 module _ {P : State} (S : Sound P) (e : ℕ) (x : Thing) (lx : Live P x) (kx : kindCode (x .0) ≤ 2) where
   abbrev hh : History
   hh = hist e (view P)
@@ -51,17 +63,7 @@ module _ {P : State} (S : Sound P) (e : ℕ) (x : Thing) (lx : Live P x) (kx : k
   abbrev inside : ℕ → Bool
   inside o = operation-in hh t (num P (op, o))
 
-  live-uses : (y : Thing) (u : Thing) → In Thing-dec u (usesAt P y) → (u .0 ≡ usg) × Live P u
-  live-uses y u i = ⊎-elim (λ z. from successors (omega (arith, count-append Thing-dec u (P .list y operands) (P .list y successors)))) (λ z. from operands z) (zero-or (count Thing-dec u (P .list y operands)))
-    where
-      from : (r : Role) → In Thing-dec u (P .list y r) → (u .0 ≡ nodeOf r) × Live P u
-      from r j = let M : Link P u (fam r) (r, y) = S .linked .link u (fam r) (r, y) (listed (S .linked) u y r j) in (M .node, M .live)
-
   -- ---- the uses that the rules end
-
-  listed-uses : (q : ℕ) → all-uses-in (opOf (recOf P (op, q))) ≡ map (num P) (usesAt P (op, q))
-  unfolding all-uses-in recOf
-  listed-uses q = sym (map-append (num P) (P .list (op, q) operands) (P .list (op, q) successors))
 
   us-is : us ≡ gather (operation-in hh t) (λ _ o. all-uses-in o) (map (λ q. (num P (op, q), opOf (recOf P (op, q)))) (P .tab op .order))
   unfolding uses-inside hist
@@ -71,7 +73,7 @@ module _ {P : State} (S : Sound P) (e : ℕ) (x : Thing) (lx : Live P x) (kx : k
   counted m =
       ap (count ℕ-discrete m) us-is
       ∙ count-tabled (λ q. num P (op, q)) (λ q. opOf (recOf P (op, q))) ℕ-discrete m (operation-in hh t) (λ _ o. all-uses-in o) (P .tab op .order)
-      ∙ ap (λ (f : ℕ → ℕ). sum f (P .tab op .order)) (fun-ext λ q. ap (λ (l : List ℕ). cond (inside q) (count ℕ-discrete m l) 0) (listed-uses q))
+      ∙ ap (λ (f : ℕ → ℕ). sum f (P .tab op .order)) (fun-ext λ q. ap (λ (l : List ℕ). cond (inside q) (count ℕ-discrete m l) 0) (listed-uses P q))
 
   -- where the use stands
   module _ (u : ℕ) (lu : Live P (usg, u)) where
@@ -96,7 +98,7 @@ module _ {P : State} (S : Sound P) (e : ℕ) (x : Thing) (lx : Live P x) (kx : k
 
     at-op : (q : ℕ) → count ℕ-discrete (num P (usg, u)) (map (num P) (usesAt P (op, q))) ≡ tick (Thing-dec z (op, q))
     at-op q =
-        count-nums (S .linked) (usg, u) (usesAt P (op, q)) lu (λ v i. live-uses (op, q) v i)
+        count-nums (S .linked) (usg, u) (usesAt P (op, q)) lu (live-uses (S .linked) (op, q))
         ∙ uses-at (S .linked) (usg, u) (op, q)
         ∙ ap (λ (o : Option Thing). upTo o (op, q)) stands
 
@@ -128,7 +130,7 @@ module _ {P : State} (S : Sound P) (e : ℕ) (x : Thing) (lx : Live P x) (kx : k
   us-live m i =
       let a : (q : ℕ) × In ℕ-discrete q (P .tab op .order) × (0 < cond (inside q) (count ℕ-discrete m (map (num P) (usesAt P (op, q)))) 0) = sum-some ℕ-discrete (λ q. cond (inside q) (count ℕ-discrete m (map (num P) (usesAt P (op, q)))) 0) (P .tab op .order) (omega (arith, counted m)) in
       let b : (u : Thing) × (m ≡ num P u) × In Thing-dec u (usesAt P (op, a .0)) = in-mapped Thing-dec ℕ-discrete (num P) m (usesAt P (op, a .0)) (pos (inside (a .0)) _ (a .2)) in
-      let k : (b .0 .0 ≡ usg) × Live P (b .0) = live-uses (op, a .0) (b .0) (b .2) in
+      let k : (b .0 .0 ≡ usg) × Live P (b .0) = live-uses (S .linked) (op, a .0) (b .0) (b .2) in
       (b .0 .1, b .1 ∙ ap (num P) (thing-eq (b .0) (usg, b .0 .1) (k .0) refl), subst (λ (y : Thing). Live P y) (thing-eq (b .0) (usg, b .0 .1) (k .0) refl) (k .1))
     where
       pos : (c : Bool) (n : ℕ) → 0 < cond c n 0 → 0 < n

@@ -11,7 +11,7 @@ use Prim.Native.Nat.{ℕ, _+_, _-_}
 use lib.Dec.{eqb}
 use lib.ListN.{length, length-map}
 use Rattle.seqs.specs.Seqs.{tick, count, In, Rises, sum}
-use Rattle.places.specs.Store.{Kind, op, blk, reg, val, usg, Role, operands, successors, results, arguments, regions, slots, useSets, vals, fam, nodeOf, holderOf, Thing, Thing-dec, Con, State, alive, Live, Link, Linked, UseHeld, Sound, outer, up}
+use Rattle.places.specs.Store.{Kind, op, blk, reg, val, usg, Role, results, arguments, regions, slots, useSets, vals, fam, nodeOf, holderOf, Thing, Thing-dec, Con, State, alive, Live, Link, Linked, UseHeld, Sound, outer, up}
 use Rattle.places.specs.View.{Rec, num, homeBy, recOf, view}
 use Rattle.edit.specs.Record.{Slot, operand, successor, Member, operation, block, Definition}
 use Rattle.places.specs.Hist.{defOf, tabled, opOf, blockOf, useOf, hist}
@@ -20,7 +20,7 @@ use Rattle.places.specs.Roles.{Unnamed, slotRole, valueRole, memberKind}
 use Rattle.rules.specs.Table.{Table, is-some, find, find-key, keys-where, any, items, member}
 use Rattle.rules.specs.History.{Operation, Block, History, live-operation, live-block, live-region, live-value, parent, user, container, uses-of, slot-of, uses-in, all-uses-in, values-at, results-of, arguments-of, same-definition}
 use Rattle.rules.specs.Refusal.{slot-length, values-length}
-use Rattle.seqs.proofs.Base.{tick-yes, tick-no, in-head, in-tail, count-append, map-append}
+use Rattle.seqs.proofs.Base.{tick-yes, tick-no, in-head, in-tail}
 use Rattle.seqs.proofs.Sums.{sum-on, sum-map, length-count}
 use Rattle.places.proofs.Steps.{thing-eq, listed, once}
 use Rattle.places.proofs.Cut.{pick-0, pick-1, zero-or, rises-sift}
@@ -29,6 +29,7 @@ use Rattle.places.proofs.DropAll.{fam-code, slot-roles, value-roles, us
 use Rattle.places.proofs.Bits.{bit, bit-eqb, bit-true, bit-false, bit-member, sgn-tick, key-tabled, tabled-view, find-view, count-nums}
 use Rattle.places.proofs.Tables.{items-tabled, in-mapped}
 use Rattle.places.proofs.RuleClimb.{numOpt, block-at-num, region-at-num, parent-num}
+use Rattle.places.proofs.RuleDrop.{live-uses, listed-uses}
 use Rattle.places.proofs.RuleOutside.{IsDef, nameOf, use-def, set-once}
 
 -- ---- tables over a list of places
@@ -218,10 +219,6 @@ module _ {P : State} (S : Sound P) (e : ℕ) where
 
   -- ---- uses
 
-  listed-uses : (q : ℕ) → all-uses-in (opOf (recOf P (op, q))) ≡ map (num P) (usesAt P (op, q))
-  unfolding all-uses-in recOf
-  listed-uses q = sym (map-append (num P) (P .list (op, q) operands) (P .list (op, q) successors))
-
   module _ (u : ℕ) (lu : Live P (usg, u)) where
     H : UseHeld (P .own (usg, u))
     H = S .placed (usg, u) lu
@@ -250,17 +247,11 @@ module _ {P : State} (S : Sound P) (e : ℕ) where
         z-live : Live P (op, z)
         z-live = subst (λ (y : Thing). Live P y) z-op (S .linked .link (usg, u) slots (H .slot) (H .in-slot) .home)
 
-        from : (y v : Thing) (r : Role) → nodeOf r ≡ usg → In Thing-dec v (P .list y r) → (v .0 ≡ usg) × Live P v
-        from y v r k j = let M : Link P v (fam r) (r, y) = S .linked .link v (fam r) (r, y) (listed (S .linked) v y r j) in (M .node ∙ k, M .live)
-
-        node : (y v : Thing) → In Thing-dec v (usesAt P y) → (v .0 ≡ usg) × Live P v
-        node y v i = ⊎-elim (λ s. from y v successors refl (omega (arith, i, s, count-append Thing-dec v (P .list y operands) (P .list y successors)))) (λ s. from y v operands refl s) (zero-or (count Thing-dec v (P .list y operands)))
-
         test : (q : ℕ) → bit (member n (all-uses-in (opOf (recOf P (op, q))))) ≡ tick (ℕ-discrete q z)
         test q =
-            ap₂ (λ (k : ℕ) (l : List ℕ). bit (member k l)) (sym m) (listed-uses q)
+            ap₂ (λ (k : ℕ) (l : List ℕ). bit (member k l)) (sym m) (listed-uses P q)
             ∙ bit-member (num P (usg, u)) (map (num P) (usesAt P (op, q)))
-            ∙ ap sgn (count-nums (S .linked) (usg, u) (usesAt P (op, q)) lu (λ v i. node (op, q) v i) ∙ uses-at (S .linked) (usg, u) (op, q) ∙ ap (λ (o : Option Con). upTo (outer o) (op, q)) (H .in-slot) ∙ same)
+            ∙ ap sgn (count-nums (S .linked) (usg, u) (usesAt P (op, q)) lu (live-uses (S .linked) (op, q)) ∙ uses-at (S .linked) (usg, u) (op, q) ∙ ap (λ (o : Option Con). upTo (outer o) (op, q)) (H .in-slot) ∙ same)
             ∙ sgn-tick (ℕ-discrete q z)
           where
             same : tick (Thing-dec (H .slot .1) (op, q)) ≡ tick (ℕ-discrete q z)

@@ -1,19 +1,10 @@
 -- A list of words that are all 0. Assumes nothing.
 use mathlib.Core.Path.{_≡_, sym, ap, _∙_}
 use mathlib.Core.List.{List}
-use Prim.Native.Nat.{ℕ, _+_, _<_}
-use native.Mathlib.Decide.{ℕ-discrete}
+use Prim.Native.Nat.{ℕ, _<_}
 use native.Mathlib.Omega.{arith}
-use lib.ListN.{length, getD, set, replicate, length-replicate, getD-replicate}
-use lib.Seq.{ext-getD, getD-set-same, getD-set-other}
-
--- one more word is 0
-pub zero-more : (s : List ℕ) (i : ℕ) → i < length s → ((j : ℕ) → j < i → getD s j 0 ≡ 0) → (j : ℕ) → j < i + 1 → getD (set s i 0) j 0 ≡ 0
-zero-more s i h all j k = go (ℕ-discrete j i)
-  where
-    go : Dec (j ≡ i) → getD (set s i 0) j 0 ≡ 0
-    go (yes e) = rw e (getD-set-same s i 0 0 h)
-    go (no f) = getD-set-other s i j 0 0 f ∙ all j (omega arith)
+use lib.ListN.{length, getD, replicate, length-replicate, getD-replicate}
+use lib.Seq.{ext-getD}
 
 pub all-zeros : (s : List ℕ) (n : ℕ) → length s ≡ n → ((i : ℕ) → i < n → getD s i 0 ≡ 0) → s ≡ replicate n 0
 all-zeros s n h f = ext-getD 0 s (replicate n 0) (h ∙ sym (length-replicate n 0)) (λ i k. f i (omega arith) ∙ sym (getD-replicate n i 0 0 (omega arith)))

@@ -3,10 +3,10 @@ use mathlib.Core.Path.{_≡_, refl, sym, ap, _∙_}
 use mathlib.Core.Logic.{_≢_, by-cases}
 use mathlib.Core.List.{List, [], _∷_}
 use Prim.Native.Nat.{ℕ, zero, suc, _+_, _-_, _≤_, _<_}
-use native.Mathlib.Decide.{decLt}
+use native.Mathlib.Decide.{ℕ-discrete, decLt}
 use native.Mathlib.Omega.{arith}
 use lib.ListN.{length, getD, set, take, drop, length-drop}
-use lib.Seq.{getD-take, getD-drop, getD-set-same, getD-set-other, length-take-le}
+use lib.Seq.{drop-drop, getD-take, getD-drop, getD-set-same, getD-set-other, length-take-le}
 use Rattle.seqs.specs.Split.{split, splice, start, part-is, lend-by, kept-whole}
 
 pub split-long : (ns m : List ℕ) → length (split ns m) ≡ suc (length ns)
@@ -19,6 +19,10 @@ pub getD-out : (s : List ℕ) (i : ℕ) → length s ≤ i → getD s i 0 ≡ 0
 getD-out [] i h = refl
 getD-out (x ∷ s) zero h = absurd (omega arith)
 getD-out (x ∷ s) (suc i) h = getD-out s i (omega arith)
+
+-- of the words that are 0 there is one more
+pub zero-more : (s : List ℕ) (i : ℕ) → i < length s → ((j : ℕ) → j < i → getD s j 0 ≡ 0) → (j : ℕ) → j < i + 1 → getD (set s i 0) j 0 ≡ 0
+zero-more s i h all j k = by-cases (ℕ-discrete j i) (λ e. rw e (getD-set-same s i 0 0 h)) (λ n. getD-set-other s i j 0 0 n ∙ all j (omega arith))
 
 -- ---- a part lent
 
@@ -45,6 +49,12 @@ module _ {ns : List ℕ} {k : ℕ} {s m m′ : List ℕ} (S : Swapped ns k s m m
   elsewhere j n = ap (λ (ps : List (List ℕ)). getD ps j []) (S .parts) ∙ getD-set-other (split ns m) k j s [] n
 
 -- ---- where the parts lie
+
+-- the last part is what lies past all others
+pub rest-is : (ns m : List ℕ) → getD (split ns m) (length ns) [] ≡ drop (start ns (length ns)) m
+unfolding split
+rest-is [] m = refl
+rest-is (n ∷ ns) m = rest-is ns (drop n m) ∙ drop-drop (start ns (length ns)) n m
 
 pub start-le : (ns : List ℕ) (k : ℕ) → k < length ns → start ns k + getD ns k 0 ≤ start ns (length ns)
 start-le [] k h = absurd (omega arith)

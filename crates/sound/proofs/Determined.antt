@@ -1,12 +1,12 @@
 -- The contract of an edit leaves nothing of the memory free but the order in which a use set is chained: of two memories that it allows, each use set has
 -- the same uses, and where the use sets are the same lists, the memories are the same, word for word. Assumes nothing.
 use mathlib.Core.Path.{_≡_, refl, sym, ap₂, _∙_}
-use mathlib.Core.List.{List, [], _∷_, _++_}
+use mathlib.Core.List.{List, _++_}
 use Prim.Native.Nat.{ℕ}
-use lib.ListN.{length, getD, take, drop, take-append-drop}
-use lib.Seq.{drop-drop}
+use lib.ListN.{take, drop, take-append-drop}
 use Rattle.seqs.specs.Seqs.{count}
-use Rattle.seqs.specs.Split.{split, start}
+use Rattle.seqs.specs.Split.{split}
+use Rattle.seqs.proofs.Parts.{rest-is}
 use Rattle.edit.specs.Record.{Edit}
 use Rattle.edit.specs.Answer.{numbers-of}
 use Rattle.edit.specs.declared.Answer.{Answer}
@@ -20,12 +20,6 @@ use Rattle.context.specs.Layout.{sizes, total}
 use Rattle.context.specs.Memory.{partsOf, stateOf, Well, SoundStore}
 use Rattle.context.specs.Performed.{abs, Performed}
 use Rattle.sound.proofs.Canon.{Small, lookup-none, store-canonical}
-
--- the last part is what lies past all others
-rest-is : (ns m : List ℕ) → getD (split ns m) (length ns) [] ≡ drop (start ns (length ns)) m
-unfolding split
-rest-is [] m = refl
-rest-is (n ∷ ns) m = rest-is ns (drop n m) ∙ drop-drop (start ns (length ns)) n m
 
 whole : (n : ℕ) (m m′ : List ℕ) → take n m ≡ take n m′ → drop n m ≡ drop n m′ → m ≡ m′
 whole n m m′ a b = sym (take-append-drop n m) ∙ ap₂ {C = List ℕ} (λ s t. s ++ t) a b ∙ take-append-drop n m′

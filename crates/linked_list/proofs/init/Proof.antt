@@ -4,7 +4,8 @@ use mathlib.Core.Path.{_≡_, refl, _∙_}
 use Prim.Native.Nat.{ℕ, _-_, _≤_, _<_, zero-le}
 use native.Mathlib.Nat.{not-suc-le-zero}
 use lib.ListN.{getD, length, length-set}
-use Rattle.linked_list.proofs.Moves.{emptied, zero-more}
+use Rattle.seqs.proofs.Parts.{zero-more}
+use Rattle.linked_list.proofs.Moves.{emptied}
 use Rattle.linked_list.proofs.init.Statement.{statement}
 use Rattle.linked_list.proofs.init.Tie as tie
 

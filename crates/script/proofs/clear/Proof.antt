@@ -4,7 +4,8 @@ use Prim.Native.Nat.{ℕ, _-_, _≤_, _<_}
 use native.Mathlib.Omega.{arith}
 use lib.ListN.{length, getD, length-set}
 use borrow.Author.Needs.{needs}
-use Rattle.script.proofs.Cleared.{zero-more, all-zeros}
+use Rattle.seqs.proofs.Parts.{zero-more}
+use Rattle.script.proofs.Cleared.{all-zeros}
 use Rattle.script.proofs.clear.Statement.{statement}
 use Rattle.script.proofs.clear.Tie as tie
 

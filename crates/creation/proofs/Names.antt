@@ -15,13 +15,13 @@ use Rattle.rules.specs.Refusal.{Name, definition-named, missing, first-missing}
 use Rattle.places.specs.Store.{val, blk, State, Live}
 use Rattle.places.specs.View.{num}
 use Rattle.places.specs.Hist.{ruleState, meaning}
-use Rattle.places.specs.Roles.{Unnamed, missingCode, defKind}
+use Rattle.places.specs.Roles.{Unnamed, missingCode, defKind, slotBy}
 use Rattle.places.proofs.RuleRefusals.{missing-first, missing-next, definition-there, definition-missing}
 use Rattle.places.proofs.RuleAccept.{endedOf}
 use Rattle.context.specs.declared.Layout.{Layout}
 use Rattle.context.specs.Memory.{stateOf, SoundStore, Finds}
 use Rattle.context.specs.Performed.{abs}
-use Rattle.creation.specs.Made.{slotBy, Named, NamesIs}
+use Rattle.creation.specs.Made.{Named, NamesIs}
 
 pub slot-0 : (sl : ℕ) → sl ≡ 0 → slotBy sl ≡ operand
 slot-0 sl e = ap slotBy e

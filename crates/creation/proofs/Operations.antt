@@ -23,7 +23,7 @@ use Rattle.places.specs.View.{num, view, nBirth, nEnter, namedC}
 use Rattle.places.specs.Edits.{birthUse, nBirthUse}
 use Rattle.places.specs.Parts.{store, rowsOf}
 use Rattle.places.specs.Hist.{ruleState, meaning}
-use Rattle.places.specs.Roles.{slotRole, defRole, defKind}
+use Rattle.places.specs.Roles.{slotRole, defRole, defKind, slotBy}
 use Rattle.places.specs.Accepts.{Accepts}
 use Rattle.places.specs.Settled.{Settles}
 use Rattle.places.proofs.Steps.{Fresh, alive-born, alive-enter}
@@ -45,7 +45,7 @@ use Rattle.context.specs.Performed.{abs, Performed}
 use Rattle.context.proofs.Places.{place<}
 use Rattle.context.proofs.Performing.{refuses, accepts}
 use Rattle.creation.specs.Room.{five, RoomIs}
-use Rattle.creation.specs.Made.{slotBy, NamesIs, CanUse, Used, Counts, OperationReady, OperationTested, grown, least, OperationPartly, gone, Made}
+use Rattle.creation.specs.Made.{NamesIs, CanUse, Used, Counts, OperationReady, OperationTested, grown, least, OperationPartly, gone, Made}
 use Rattle.creation.proofs.Listed.{part-none, part-more}
 use Rattle.creation.proofs.Names.{slot-0, slot-1, all-there}
 

@@ -3,9 +3,9 @@
 use mathlib.Core.Path.{_≡_}
 use mathlib.Core.Logic.{_≢_}
 use mathlib.Core.List.{List, _++_, map}
-use Prim.Native.Nat.{ℕ, zero, suc, _+_, _-_, _<_, _≤_}
+use Prim.Native.Nat.{ℕ, _+_, _-_, _<_, _≤_}
 use lib.ListN.{length, getD}
-use Rattle.edit.specs.Record.{Slot, operand, successor, Edit, new-operation, new-block, part}
+use Rattle.edit.specs.Record.{Slot, Edit, new-operation, new-block, part}
 use Rattle.edit.specs.Taken.{edit-of, Operation-fields, Block-fields}
 use Rattle.rules.specs.Refusal.{Name, definition-named, first-missing, refusal-of}
 use Rattle.places.specs.Store.{Kind, op, blk, val, usg, Live, State}
@@ -47,11 +47,6 @@ pub record BlockPartly (l : Layout) (fs : List ℕ) (b j : ℕ) (m m′ : List �
   pub made : Made l (new-block (part fs 1 j)) blk b m m′
 
 -- ---- a new operation
-
--- the slot that the functions are told by a code: 0 for operands
-abbrev pub slotBy : ℕ → Slot
-slotBy zero = operand
-slotBy (suc k) = successor
 
 -- a live thing of the kind has the number
 pub record Named (P : State) (k : Kind) (n : ℕ) : Type 0 where

@@ -11,11 +11,11 @@ ghost use Rattle.table.specs.Table.{Says};
 ghost use Rattle.edit.specs.Taken.{fields-of, edit-of, Passed};
 ghost use Rattle.rules.specs.Refusal.{lacks, numbers, live-counts};
 ghost use Rattle.context.specs.Layout.{capOf, kindOf};
-ghost use Rattle.places.specs.Roles.{missingCode, defKind};
+ghost use Rattle.places.specs.Roles.{missingCode, defKind, slotBy};
 ghost use Rattle.context.specs.Memory.{stateOf, Well, SoundStore, Finds};
 ghost use Rattle.context.specs.Performed.{abs, Performed};
 ghost use Rattle.creation.specs.Room.{five, spare, left, LackIs, RoomIs};
-ghost use Rattle.creation.specs.Made.{slotBy, NamesIs, Counts, OperationTested, CanUse, Used, Underway, Onward};
+ghost use Rattle.creation.specs.Made.{NamesIs, Counts, OperationTested, CanUse, Used, Underway, Onward};
 
 // Whether more places of the kind `k`, with the capacity `n`, are wanted than are free.
 fn lacks_places(m: &[u32], l: Layout, k: usize, n: usize, want: usize) -> bool

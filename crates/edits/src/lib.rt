@@ -4,11 +4,9 @@ use edit::Answer;
 ghost use Prim.Native.Nat.{_+_, _≤_};
 ghost use Rattle.edit.specs.Taken.{Passed, fields-of, edit-of};
 ghost use Rattle.edit.specs.ByKind.{use-kinds, value-kinds, link-kinds};
+ghost use Rattle.places.specs.Roles.{slotBy, memberBy};
 ghost use Rattle.context.specs.Memory.{SoundStore};
 ghost use Rattle.context.specs.Performed.{Performed};
-ghost use Rattle.uses.specs.Look.{slotBy};
-ghost use Rattle.values.specs.Look.{memberBy};
-ghost use Rattle.links.specs.Tests.{memberOf};
 ghost use Rattle.edits.specs.Scratch.{Scratch, PerformedWith};
 
 // Kinds 3 to 7 for operands (`sl` 0) and 8 to 12 for successors: `step` counts from the first of the five.
@@ -61,7 +59,7 @@ fn link_edit(m: &mut [u32], l: Layout, w: usize, rec: &[u8], step: u32) -> Answe
     requires { ⌜ SoundStore l (now m) ⌝ }
     requires { ⌜ w ≤ 1 ⌝ }
     requires { ⌜ step ≤ 4 ⌝ }
-    ensures { λ r. ⌜ Performed l (edit-of (link-kinds (memberOf w) + step) (fields-of (now (rec .entry)))) (now (m .entry)) (now (m .exit)) r ⌝ }
+    ensures { λ r. ⌜ Performed l (edit-of (link-kinds (memberBy w) + step) (fields-of (now (rec .entry)))) (now (m .entry)) (now (m .exit)) r ⌝ }
 {
     let a = edit::field(rec, 0);
     let b = edit::field(rec, 1);

@@ -22,7 +22,7 @@ use Rattle.places.specs.Hist.{meaning}
 use Rattle.places.specs.Settled.{Settles}
 use Rattle.places.specs.Members.{roleOf, memberAt, containerAt, listAt, homeOf, heldCode, position}
 use Rattle.places.proofs.Steps.{CanEnter, once}
-use Rattle.places.specs.Roles.{Unnamed}
+use Rattle.places.specs.Roles.{Unnamed, memberBy}
 use Rattle.places.proofs.RuleLinks.{split-at, front-accept, back-accept, after-accept, before-accept, unlink-accept}
 use Rattle.places.proofs.RuleLinkTests.{unlink-code}
 use Rattle.places.proofs.Settling.{settles-same, settles-enter, settles-leave}
@@ -35,7 +35,7 @@ use Rattle.context.specs.Steps.{CanLinkTo, LinkedTo, CanLinkBy, LinkedBy, Unlin
 use Rattle.context.specs.Performed.{abs, Performed}
 use Rattle.context.proofs.Families.{list-at}
 use Rattle.context.proofs.Performing.{refuses, accepts}
-use Rattle.links.specs.Tests.{memberOf, missingCode, MayEnter, Refuses, Entering, Beside, EnterTested, BesideTested}
+use Rattle.links.specs.Tests.{missingCode, MayEnter, Refuses, Entering, Beside, EnterTested, BesideTested}
 use Rattle.links.specs.declared.Tested.{Tested}
 use Rattle.links.specs.declared.Tested.the-variants.{No, Yes}
 use Rattle.links.proofs.Sorts.{list-is, node-is, own-is, member<, container<, home-at, may-link, can-link, can-stand}
@@ -68,7 +68,7 @@ module _ {l : Layout} {m : List ℕ} (S : SoundStore l m) (w : ℕ) (w≤ : w �
   P = stateOf l m
 
   abbrev W : Member
-  W = memberOf w
+  W = memberBy w
 
   -- a member came to stand at index i of the container at c
   put-in : {m′ : List ℕ} (e : Edit) (n c i : ℕ) → SoundStore l m′ → part l m′ 14 ≡ part l m 14 → stateOf l m′ ≡ enter (listAt W c) i (memberAt W n) P → refusal-of (abs l m) e ≡ 0 → ((k : History) → answer e (abs l m) k ≡ clean)
@@ -156,26 +156,26 @@ module _ {l : Layout} {m : List ℕ} (S : SoundStore l m) (w : ℕ) (w≤ : w �
 -- ---- what the tests hand on
 
 module _ {l : Layout} {m : List ℕ} (S : SoundStore l m) (w : ℕ) (w≤ : w ≤ 1) (x y : ℕ) (t : Tested) where
-  module _ (T : EnterTested l (memberOf w) x y m t) where
-    pub enter-refused : (r : ℕ) → t ≡ No r → Performed l (link-front (memberOf w) x y) m m (Refused r) × Performed l (link-back (memberOf w) x y) m m (Refused r)
-    enter-refused r e = let q : (0 < r) × Refuses l (link-front (memberOf w) x y) (link-back (memberOf w) x y) m r = subst (λ (z : Tested). EnterTested l (memberOf w) x y m z) e T in
-        (refused S (link-front (memberOf w) x y) r (q .0) (q .1 .first), refused S (link-back (memberOf w) x y) r (q .0) (q .1 .second))
+  module _ (T : EnterTested l (memberBy w) x y m t) where
+    pub enter-refused : (r : ℕ) → t ≡ No r → Performed l (link-front (memberBy w) x y) m m (Refused r) × Performed l (link-back (memberBy w) x y) m m (Refused r)
+    enter-refused r e = let q : (0 < r) × Refuses l (link-front (memberBy w) x y) (link-back (memberBy w) x y) m r = subst (λ (z : Tested). EnterTested l (memberBy w) x y m z) e T in
+        (refused S (link-front (memberBy w) x y) r (q .0) (q .1 .first), refused S (link-back (memberBy w) x y) r (q .0) (q .1 .second))
 
-    pub entering-at : (n c : ℕ) → t ≡ Yes n c → Entering l (memberOf w) x y n c m
-    entering-at n c e = subst (λ (z : Tested). EnterTested l (memberOf w) x y m z) e T
+    pub entering-at : (n c : ℕ) → t ≡ Yes n c → Entering l (memberBy w) x y n c m
+    entering-at n c e = subst (λ (z : Tested). EnterTested l (memberBy w) x y m z) e T
 
     pub enter-asked : (n c : ℕ) → t ≡ Yes n c → SoundStore l m × (steps.Member (famOf (4 + w)) × (((c < ncOf l (famOf (4 + w))) × (n < nnOf l (famOf (4 + w)))) × CanLinkTo (stateOf l m) (famOf (4 + w)) n (con l (famOf (4 + w)) c)))
-    enter-asked n c e = let E : Entering l (memberOf w) x y n c m = entering-at n c e in
+    enter-asked n c e = let E : Entering l (memberBy w) x y n c m = entering-at n c e in
         (S, (may-link w w≤, ((container< w w≤ l S c (E .may .home), member< w w≤ l S n (E .may .live)), can-link w w≤ l m x n c (E .may))))
 
-  module _ (T : BesideTested l (memberOf w) x y m t) where
-    pub beside-refused : (r : ℕ) → t ≡ No r → Performed l (link-after (memberOf w) x y) m m (Refused r) × Performed l (link-before (memberOf w) x y) m m (Refused r)
-    beside-refused r e = let q : (0 < r) × Refuses l (link-after (memberOf w) x y) (link-before (memberOf w) x y) m r = subst (λ (z : Tested). BesideTested l (memberOf w) x y m z) e T in
-        (refused S (link-after (memberOf w) x y) r (q .0) (q .1 .first), refused S (link-before (memberOf w) x y) r (q .0) (q .1 .second))
+  module _ (T : BesideTested l (memberBy w) x y m t) where
+    pub beside-refused : (r : ℕ) → t ≡ No r → Performed l (link-after (memberBy w) x y) m m (Refused r) × Performed l (link-before (memberBy w) x y) m m (Refused r)
+    beside-refused r e = let q : (0 < r) × Refuses l (link-after (memberBy w) x y) (link-before (memberBy w) x y) m r = subst (λ (z : Tested). BesideTested l (memberBy w) x y m z) e T in
+        (refused S (link-after (memberBy w) x y) r (q .0) (q .1 .first), refused S (link-before (memberBy w) x y) r (q .0) (q .1 .second))
 
-    pub beside-at : (n k : ℕ) → t ≡ Yes n k → Beside l (memberOf w) x y n k m
-    beside-at n k e = subst (λ (z : Tested). BesideTested l (memberOf w) x y m z) e T
+    pub beside-at : (n k : ℕ) → t ≡ Yes n k → Beside l (memberBy w) x y n k m
+    beside-at n k e = subst (λ (z : Tested). BesideTested l (memberBy w) x y m z) e T
 
     pub beside-asked : (n k : ℕ) → t ≡ Yes n k → SoundStore l m × (steps.Member (famOf (4 + w)) × ((n < nnOf l (famOf (4 + w))) × CanLinkBy (stateOf l m) (famOf (4 + w)) k n))
-    beside-asked n k e = let E : Beside l (memberOf w) x y n k m = beside-at n k e in
+    beside-asked n k e = let E : Beside l (memberBy w) x y n k m = beside-at n k e in
         (S, (may-link w w≤, (member< w w≤ l S n (E .may .live), can-stand w w≤ l m x n k (E .container) (E .may) (E .there))))

@@ -22,7 +22,7 @@ use Rattle.places.specs.Members.{roleOf, memberAt, containerAt, listAt, homeOf,
 use Rattle.places.proofs.Cut.{pick-0, pick-1, zero-or}
 use Rattle.places.proofs.Nest.{kindCode}
 use Rattle.places.proofs.DropTurn.{kids-op, kids-blk}
-use Rattle.places.specs.Roles.{Unnamed}
+use Rattle.places.specs.Roles.{Unnamed, memberBy}
 use Rattle.places.proofs.RuleRefusals.{refusal-name, refusal-tests, missing-first, missing-next, member-there, member-missing, container-there, container-missing}
 use Rattle.places.proofs.RuleLinkTests.{walk-clear, container-live, front-code, back-code, after-code, before-code}
 use Rattle.context.specs.declared.Layout.{Layout}
@@ -30,7 +30,7 @@ use Rattle.context.specs.Layout.{famOf, ncOf}
 use Rattle.context.specs.Memory.{stateOf, SoundStore, HomeIs, headCode, FirstIs}
 use Rattle.context.specs.Performed.{abs}
 use Rattle.context.proofs.Places.{place<}
-use Rattle.links.specs.Tests.{memberOf, missingCode, Refuses, Entering, Beside}
+use Rattle.links.specs.Tests.{missingCode, Refuses, Entering, Beside}
 use Rattle.links.specs.Climbing.{climbed, thrice}
 use Rattle.links.proofs.Climb.{block-walk, region-walk}
 use Rattle.links.proofs.Sorts.{by-sort, home-free, home-at}
@@ -73,7 +73,7 @@ module _ {l : Layout} {m : List ℕ} (w : ℕ) (w≤ : w ≤ 1) (n h : ℕ) (H :
   P = stateOf l m
 
   abbrev W : Member
-  W = memberOf w
+  W = memberBy w
 
   pub linked-15 : (a b : ℕ) → h ≢ 0 → heldCode (homeOf P W n) a b ≡ a
   linked-15 a b d = ap (λ (o : Option Con). heldCode o a b) (home-at w w≤ l n h H d)
@@ -121,18 +121,18 @@ module _ {P : State} (S : Sound P) where
   is-there operation n x l e = member-there S n₀ operation n x l e
   is-there block n x l e = member-there S n₀ block n x l e
 
-  pub not-there : (w x : ℕ) → w ≤ 1 → Unnamed P (nodeOf (roleOf (memberOf w))) x → missing (meaning P .history) (member-named (memberOf w) x) ≡ missingCode w
+  pub not-there : (w x : ℕ) → w ≤ 1 → Unnamed P (nodeOf (roleOf (memberBy w))) x → missing (meaning P .history) (member-named (memberBy w) x) ≡ missingCode w
   unfolding meaning ruleState
-  not-there w x h = by-sort (λ v. Unnamed P (nodeOf (roleOf (memberOf v))) x → missing (meaning P .history) (member-named (memberOf v) x) ≡ missingCode v) w h (λ u. member-missing S n₀ operation x u) (λ u. member-missing S n₀ block x u)
+  not-there w x h = by-sort (λ v. Unnamed P (nodeOf (roleOf (memberBy v))) x → missing (meaning P .history) (member-named (memberBy v) x) ≡ missingCode v) w h (λ u. member-missing S n₀ operation x u) (λ u. member-missing S n₀ block x u)
 
   pub holder-there : (w : Member) (n x : ℕ) → Live P (containerAt w n) → num P (containerAt w n) ≡ x → missing (meaning P .history) (container-named w x) ≡ 0
   unfolding meaning ruleState
   holder-there operation n x l e = container-there S n₀ operation n x l e
   holder-there block n x l e = container-there S n₀ block n x l e
 
-  pub no-holder : (w x : ℕ) → w ≤ 1 → Unnamed P (holderOf (roleOf (memberOf w))) x → missing (meaning P .history) (container-named (memberOf w) x) ≡ missingCode (w + 1)
+  pub no-holder : (w x : ℕ) → w ≤ 1 → Unnamed P (holderOf (roleOf (memberBy w))) x → missing (meaning P .history) (container-named (memberBy w) x) ≡ missingCode (w + 1)
   unfolding meaning ruleState
-  no-holder w x h = by-sort (λ v. Unnamed P (holderOf (roleOf (memberOf v))) x → missing (meaning P .history) (container-named (memberOf v) x) ≡ missingCode (v + 1)) w h (λ u. container-missing S n₀ operation x u) (λ u. container-missing S n₀ block x u)
+  no-holder w x h = by-sort (λ v. Unnamed P (holderOf (roleOf (memberBy v))) x → missing (meaning P .history) (container-named (memberBy v) x) ≡ missingCode (v + 1)) w h (λ u. container-missing S n₀ operation x u) (λ u. container-missing S n₀ block x u)
 
 pub missing-pos : (k : ℕ) → missingCode k ≡ suc (missingCode k - 1)
 missing-pos zero = refl
@@ -146,7 +146,7 @@ module _ {l : Layout} {m : List ℕ} (S : SoundStore l m) (w : ℕ) (w≤ : w �
   Q = stateOf l m
 
   abbrev W′ : Member
-  W′ = memberOf w
+  W′ = memberBy w
 
   pub no-member-front : Unnamed Q (nodeOf (roleOf W′)) x → Refuses l (link-front W′ x y) (link-back W′ x y) m (missingCode w)
   unfolding abs named
@@ -236,24 +236,24 @@ missing-9 (suc (suc k)) a b = refl
 -- ---- the container inside the member, by the sort
 
 module _ {P : State} (S : Sound P) (n c d : ℕ) (all : d ≡ length (P .tab op .order)) (r : Bool) where
-  pub contained-0 : (w : ℕ) → w ≡ 0 → Live P (containerAt (memberOf w) c) → Says r (0 < climbed (up P) (suc (suc (thrice d))) (op, n) (blk, c)) → Says r (0 < count Thing-dec (containerAt (memberOf w) c) (walk P (memberAt (memberOf w) n)))
+  pub contained-0 : (w : ℕ) → w ≡ 0 → Live P (containerAt (memberBy w) c) → Says r (0 < climbed (up P) (suc (suc (thrice d))) (op, n) (blk, c)) → Says r (0 < count Thing-dec (containerAt (memberBy w) c) (walk P (memberAt (memberBy w) n)))
   contained-0 zero e l says = block-walk (S .linked) (op, n) (blk, c) l d all r refl says
   contained-0 (suc w) e l says = absurd (omega arith)
 
-  pub contained-1 : (w : ℕ) → w ≢ 0 → Live P (containerAt (memberOf w) c) → Says r (0 < climbed (up P) (suc (thrice d)) (blk, n) (reg, c)) → Says r (0 < count Thing-dec (containerAt (memberOf w) c) (walk P (memberAt (memberOf w) n)))
+  pub contained-1 : (w : ℕ) → w ≢ 0 → Live P (containerAt (memberBy w) c) → Says r (0 < climbed (up P) (suc (thrice d)) (blk, n) (reg, c)) → Says r (0 < count Thing-dec (containerAt (memberBy w) c) (walk P (memberAt (memberBy w) n)))
   contained-1 zero e l says = absurd (e refl)
   contained-1 (suc w) e l says = region-walk (S .linked) (blk, n) (reg, c) l d all r refl says
 
-pub block-of : (P : State) (c w : ℕ) → w ≡ 0 → Live P (containerAt (memberOf w) c) → Live P (blk, c)
+pub block-of : (P : State) (c w : ℕ) → w ≡ 0 → Live P (containerAt (memberBy w) c) → Live P (blk, c)
 block-of P c zero e l = l
 block-of P c (suc w) e l = absurd (omega arith)
 
-pub region-of : (P : State) (c w : ℕ) → w ≢ 0 → Live P (containerAt (memberOf w) c) → Live P (reg, c)
+pub region-of : (P : State) (c w : ℕ) → w ≢ 0 → Live P (containerAt (memberBy w) c) → Live P (reg, c)
 region-of P c zero e l = absurd (e refl)
 region-of P c (suc w) e l = l
 
 -- a member that holds nothing: nothing but itself lies in it
-pub holds : (l : Layout) (w : ℕ) → w ≤ 1 → (n : ℕ) → {m : List ℕ} (S : SoundStore l m) → Live (stateOf l m) (memberAt (memberOf w) n) → n < ncOf l (famOf (3 + w))
+pub holds : (l : Layout) (w : ℕ) → w ≤ 1 → (n : ℕ) → {m : List ℕ} (S : SoundStore l m) → Live (stateOf l m) (memberAt (memberBy w) n) → n < ncOf l (famOf (3 + w))
 holds l zero h n S v = place< S (op, n) v
 holds l (suc zero) h n S v = place< S (blk, n) v
 holds l (suc (suc w)) h n S v = absurd (omega arith)
@@ -266,7 +266,7 @@ head-none : (r : ℕ) (c : List Thing) → r ≡ headCode c → r ≡ 0 → c �
 head-none r [] e z = refl
 head-none r (x ∷ c) e z = absurd (omega (arith, e, z))
 
-pub empty-member : {l : Layout} {m : List ℕ} (S : SoundStore l m) (w : ℕ) → w ≤ 1 → (n c r : ℕ) → FirstIs l (famOf (3 + w)) n m r → r ≡ 0 → 0 < count Thing-dec (containerAt (memberOf w) c) (walk (stateOf l m) (memberAt (memberOf w) n)) → ⊥
+pub empty-member : {l : Layout} {m : List ℕ} (S : SoundStore l m) (w : ℕ) → w ≤ 1 → (n c r : ℕ) → FirstIs l (famOf (3 + w)) n m r → r ≡ 0 → 0 < count Thing-dec (containerAt (memberBy w) c) (walk (stateOf l m) (memberAt (memberBy w) n)) → ⊥
 unfolding rowsOf kindCode
 empty-member {l} {m} S zero h n c r F z g = alone (stateOf l m) (op, n) (blk, c) (kids-op (S .sound .linked) n ∙ head-none r _ (F .is) z) (λ q. absurd (omega (arith, q))) g
 empty-member {l} {m} S (suc zero) h n c r F z g = alone (stateOf l m) (blk, n) (reg, c) (kids-blk (S .sound .linked) n ∙ head-none r _ (F .is) z) (λ q. absurd (omega (arith, q))) g

@@ -7,18 +7,13 @@ use Prim.Native.Nat.{ℕ, zero, suc, _<_}
 use Rattle.places.specs.Store.{State, Live, Clear, up}
 use Rattle.places.specs.View.{num}
 use Rattle.places.specs.Members.{memberAt, containerAt, listAt, homeOf}
-use Rattle.edit.specs.Record.{Member, operation, block, Edit, link-after, link-before, link-front, link-back}
+use Rattle.edit.specs.Record.{Member, Edit, link-after, link-before, link-front, link-back}
 use Rattle.rules.specs.Refusal.{refusal-of}
 use Rattle.context.specs.declared.Layout.{Layout}
 use Rattle.context.specs.Memory.{stateOf}
 use Rattle.context.specs.Performed.{abs}
 use Rattle.links.specs.declared.Tested.{Tested}
 use Rattle.links.specs.declared.Tested.the-variants.{No, Yes}
-
--- 0 for operations in blocks, 1 for blocks in regions
-abbrev pub memberOf : ℕ → Member
-memberOf zero = operation
-memberOf (suc k) = block
 
 -- 7, 8, 9: no live operation, block, region has the number
 abbrev pub missingCode : ℕ → ℕ

@@ -12,11 +12,12 @@ ghost use Rattle.edit.specs.Record.{link-after, link-before, link-front, link-b
 ghost use Rattle.places.specs.Store.{op, blk, reg, Live, Thing-dec, up};
 ghost use Rattle.places.specs.Walk.{walk};
 ghost use Rattle.places.specs.Members.{memberAt, containerAt, enterCode, besideCode};
+ghost use Rattle.places.specs.Roles.{memberBy};
 ghost use Rattle.context.specs.Layout.{kindOf};
 ghost use Rattle.context.specs.Memory.{stateOf, SoundStore};
 ghost use Rattle.context.specs.Performed.{Performed};
 ghost use Rattle.links.specs.Climbing.{climbed, thrice, StepIs};
-ghost use Rattle.links.specs.Tests.{memberOf, missingCode, EnterTested, BesideTested};
+ghost use Rattle.links.specs.Tests.{missingCode, EnterTested, BesideTested};
 ghost use Rattle.links.specs.Moving.{MayMove, MoveTested};
 
 // The tests before an edit: the refusal, or the places of the two things that it names.
@@ -128,9 +129,9 @@ fn region_in(m: &[u32], l: Layout, k: usize, x: usize, r: usize, depth: usize) -
 fn contained_in(m: &[u32], l: Layout, w: usize, n: usize, c: usize) -> bool
     requires { ⌜ SoundStore l (now m) ⌝ }
     requires { ⌜ w ≤ 1 ⌝ }
-    requires { ⌜ Live (stateOf l (now m)) (memberAt (memberOf w) n) ⌝ }
-    requires { ⌜ Live (stateOf l (now m)) (containerAt (memberOf w) c) ⌝ }
-    ensures { λ r. ⌜ Says r (0 < count Thing-dec (containerAt (memberOf w) c) (walk (stateOf l (now (m .entry))) (memberAt (memberOf w) n))) ⌝ }
+    requires { ⌜ Live (stateOf l (now m)) (memberAt (memberBy w) n) ⌝ }
+    requires { ⌜ Live (stateOf l (now m)) (containerAt (memberBy w) c) ⌝ }
+    ensures { λ r. ⌜ Says r (0 < count Thing-dec (containerAt (memberBy w) c) (walk (stateOf l (now (m .entry))) (memberAt (memberBy w) n))) ⌝ }
 {
     let first = context::first_of(m, l, 3 + w, n);
     if first == 0 {
@@ -147,9 +148,9 @@ fn contained_in(m: &[u32], l: Layout, w: usize, n: usize, c: usize) -> bool
 fn may_enter(m: &[u32], l: Layout, w: usize, n: usize, c: usize) -> u32
     requires { ⌜ SoundStore l (now m) ⌝ }
     requires { ⌜ w ≤ 1 ⌝ }
-    requires { ⌜ Live (stateOf l (now m)) (memberAt (memberOf w) n) ⌝ }
-    requires { ⌜ Live (stateOf l (now m)) (containerAt (memberOf w) c) ⌝ }
-    ensures { λ r. ⌜ r ≡ enterCode (stateOf l (now (m .entry))) (memberOf w) n c ⌝ }
+    requires { ⌜ Live (stateOf l (now m)) (memberAt (memberBy w) n) ⌝ }
+    requires { ⌜ Live (stateOf l (now m)) (containerAt (memberBy w) c) ⌝ }
+    ensures { λ r. ⌜ r ≡ enterCode (stateOf l (now (m .entry))) (memberBy w) n c ⌝ }
 {
     let h = context::home_of(m, l, 4 + w, n);
     if h != 0 {
@@ -166,9 +167,9 @@ fn may_enter(m: &[u32], l: Layout, w: usize, n: usize, c: usize) -> u32
 fn may_stand_by(m: &[u32], l: Layout, w: usize, n: usize, k: usize) -> u32
     requires { ⌜ SoundStore l (now m) ⌝ }
     requires { ⌜ w ≤ 1 ⌝ }
-    requires { ⌜ Live (stateOf l (now m)) (memberAt (memberOf w) n) ⌝ }
-    requires { ⌜ Live (stateOf l (now m)) (memberAt (memberOf w) k) ⌝ }
-    ensures { λ r. ⌜ r ≡ besideCode (stateOf l (now (m .entry))) (memberOf w) n k ⌝ }
+    requires { ⌜ Live (stateOf l (now m)) (memberAt (memberBy w) n) ⌝ }
+    requires { ⌜ Live (stateOf l (now m)) (memberAt (memberBy w) k) ⌝ }
+    ensures { λ r. ⌜ r ≡ besideCode (stateOf l (now (m .entry))) (memberBy w) n k ⌝ }
 {
     let h = context::home_of(m, l, 4 + w, n);
     if h != 0 {
@@ -203,7 +204,7 @@ fn missing(k: usize) -> u32
 fn test_enter(m: &[u32], l: Layout, w: usize, x: u32, c: u32) -> Tested
     requires { ⌜ SoundStore l (now m) ⌝ }
     requires { ⌜ w ≤ 1 ⌝ }
-    ensures { λ r. ⌜ EnterTested l (memberOf w) x c (now (m .entry)) r ⌝ }
+    ensures { λ r. ⌜ EnterTested l (memberBy w) x c (now (m .entry)) r ⌝ }
 {
     let a = context::find(m, l, w, x);
     let Found::At(n) = a else {
@@ -224,7 +225,7 @@ fn test_enter(m: &[u32], l: Layout, w: usize, x: u32, c: u32) -> Tested
 fn test_beside(m: &[u32], l: Layout, w: usize, x: u32, mark: u32) -> Tested
     requires { ⌜ SoundStore l (now m) ⌝ }
     requires { ⌜ w ≤ 1 ⌝ }
-    ensures { λ r. ⌜ BesideTested l (memberOf w) x mark (now (m .entry)) r ⌝ }
+    ensures { λ r. ⌜ BesideTested l (memberBy w) x mark (now (m .entry)) r ⌝ }
 {
     let a = context::find(m, l, w, x);
     let Found::At(n) = a else {
@@ -245,7 +246,7 @@ fn test_beside(m: &[u32], l: Layout, w: usize, x: u32, mark: u32) -> Tested
 pub fn link_front(m: &mut [u32], l: Layout, w: usize, x: u32, c: u32) -> Answer
     requires { ⌜ SoundStore l (now m) ⌝ }
     requires { ⌜ w ≤ 1 ⌝ }
-    ensures { λ r. ⌜ Performed l (link-front (memberOf w) x c) (now (m .entry)) (now (m .exit)) r ⌝ }
+    ensures { λ r. ⌜ Performed l (link-front (memberBy w) x c) (now (m .entry)) (now (m .exit)) r ⌝ }
 {
     let t = test_enter(m, l, w, x, c);
     match t {
@@ -261,7 +262,7 @@ pub fn link_front(m: &mut [u32], l: Layout, w: usize, x: u32, c: u32) -> Answer
 pub fn link_back(m: &mut [u32], l: Layout, w: usize, x: u32, c: u32) -> Answer
     requires { ⌜ SoundStore l (now m) ⌝ }
     requires { ⌜ w ≤ 1 ⌝ }
-    ensures { λ r. ⌜ Performed l (link-back (memberOf w) x c) (now (m .entry)) (now (m .exit)) r ⌝ }
+    ensures { λ r. ⌜ Performed l (link-back (memberBy w) x c) (now (m .entry)) (now (m .exit)) r ⌝ }
 {
     let t = test_enter(m, l, w, x, c);
     match t {
@@ -277,7 +278,7 @@ pub fn link_back(m: &mut [u32], l: Layout, w: usize, x: u32, c: u32) -> Answer
 pub fn link_after(m: &mut [u32], l: Layout, w: usize, x: u32, mark: u32) -> Answer
     requires { ⌜ SoundStore l (now m) ⌝ }
     requires { ⌜ w ≤ 1 ⌝ }
-    ensures { λ r. ⌜ Performed l (link-after (memberOf w) x mark) (now (m .entry)) (now (m .exit)) r ⌝ }
+    ensures { λ r. ⌜ Performed l (link-after (memberBy w) x mark) (now (m .entry)) (now (m .exit)) r ⌝ }
 {
     let t = test_beside(m, l, w, x, mark);
     match t {
@@ -293,7 +294,7 @@ pub fn link_after(m: &mut [u32], l: Layout, w: usize, x: u32, mark: u32) -> Answ
 pub fn link_before(m: &mut [u32], l: Layout, w: usize, x: u32, mark: u32) -> Answer
     requires { ⌜ SoundStore l (now m) ⌝ }
     requires { ⌜ w ≤ 1 ⌝ }
-    ensures { λ r. ⌜ Performed l (link-before (memberOf w) x mark) (now (m .entry)) (now (m .exit)) r ⌝ }
+    ensures { λ r. ⌜ Performed l (link-before (memberBy w) x mark) (now (m .entry)) (now (m .exit)) r ⌝ }
 {
     let t = test_beside(m, l, w, x, mark);
     match t {
@@ -309,7 +310,7 @@ pub fn link_before(m: &mut [u32], l: Layout, w: usize, x: u32, mark: u32) -> Ans
 pub fn unlink_from(m: &mut [u32], l: Layout, w: usize, x: u32) -> Answer
     requires { ⌜ SoundStore l (now m) ⌝ }
     requires { ⌜ w ≤ 1 ⌝ }
-    ensures { λ r. ⌜ Performed l (unlink (memberOf w) x) (now (m .entry)) (now (m .exit)) r ⌝ }
+    ensures { λ r. ⌜ Performed l (unlink (memberBy w) x) (now (m .entry)) (now (m .exit)) r ⌝ }
 {
     let a = context::find(m, l, w, x);
     let Found::At(n) = a else {

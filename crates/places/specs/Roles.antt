@@ -1,7 +1,7 @@
 -- The lists and kinds that the rules' slots and members name, and when no live thing has a number.
 -- Assumes nothing: these are definitions.
 use mathlib.Core.Logic.{_≢_}
-use Prim.Native.Nat.{ℕ}
+use Prim.Native.Nat.{ℕ, zero, suc}
 use Rattle.places.specs.Store.{Kind, op, blk, reg, val, usg, Role, operands, successors, valueUses, blockUses, results, arguments, State, Live}
 use Rattle.places.specs.View.{num}
 use Rattle.edit.specs.Record.{Slot, operand, successor, Member, operation, block}
@@ -17,6 +17,15 @@ missingCode blk = 8
 missingCode reg = 9
 missingCode val = 10
 missingCode usg = 11
+
+-- the codes by which the functions are told a slot, 0 for operands, and a member, 0 for an operation
+abbrev pub slotBy : ℕ → Slot
+slotBy zero = operand
+slotBy (suc k) = successor
+
+abbrev pub memberBy : ℕ → Member
+memberBy zero = operation
+memberBy (suc k) = block
 
 -- an operation's list of uses
 abbrev pub slotRole : Slot → Role

@@ -13,7 +13,7 @@ use Rattle.edit.specs.Record.{Slot, operand, successor, push-use, insert-use, r
 use Rattle.rules.specs.Refusal.{operation-named, definition-named, named, check}
 use Rattle.places.specs.Store.{op, blk, val, usg, operands, successors, valueUses, blockUses, useSets, Con, State, Live}
 use Rattle.places.specs.View.{num}
-use Rattle.places.specs.Roles.{Unnamed, missingCode, defKind}
+use Rattle.places.specs.Roles.{Unnamed, missingCode, defKind, slotBy}
 use Rattle.places.specs.Parts.{rowsOf}
 use Rattle.places.proofs.Rows.{mine}
 use Rattle.context.specs.declared.Layout.{Layout}
@@ -21,7 +21,7 @@ use Rattle.context.specs.Memory.{con, rowsFor, stateOf, SoundStore, Finds, Room
 use Rattle.context.specs.Reading.{NumberIs}
 use Rattle.context.proofs.Families.{con-back}
 use Rattle.context.proofs.Places.{place<}
-use Rattle.uses.specs.Look.{slotBy, SlotAt, SlotFound, DefAt, DefFound, GrowIs, DefNumberIs}
+use Rattle.uses.specs.Look.{SlotAt, SlotFound, DefAt, DefFound, GrowIs, DefNumberIs}
 
 pub slot-0 : (sl : ℕ) → sl ≡ 0 → slotBy sl ≡ operand
 slot-0 sl e = ap slotBy e

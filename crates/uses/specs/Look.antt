@@ -3,12 +3,12 @@
 use mathlib.Core.Path.{_≡_}
 use mathlib.Core.List.{List}
 use mathlib.Core.Option.{some}
-use Prim.Native.Nat.{ℕ, zero, suc, _<_}
+use Prim.Native.Nat.{ℕ, _<_}
 use lib.Dec.{leb, ltb}
 use lib.ListN.{length, getD}
 use Rattle.bits.specs.declared.Found.{Found}
 use Rattle.bits.specs.declared.Found.the-variants.{At, Nothing}
-use Rattle.edit.specs.Record.{Slot, operand, successor}
+use Rattle.edit.specs.Record.{Slot}
 use Rattle.rules.specs.Refusal.{check}
 use Rattle.places.specs.Store.{op, usg, slots, useSets, Con, Live}
 use Rattle.places.specs.View.{num}
@@ -18,11 +18,6 @@ use Rattle.context.specs.Layout.{ncOf}
 use Rattle.context.specs.Memory.{con, stateOf, RoomFor, roomCode}
 use Rattle.context.specs.Reading.{listOf}
 use Rattle.context.specs.Steps.{EndedUse}
-
--- the code by which the functions are told a slot: 0 for operands
-abbrev pub slotBy : ℕ → Slot
-slotBy zero = operand
-slotBy (suc k) = successor
 
 -- s is the list of the operation with the number n
 pub record SlotAt (l : Layout) (m : List ℕ) (sl : Slot) (n s : ℕ) : Type 0 where

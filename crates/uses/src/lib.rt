@@ -10,7 +10,7 @@ ghost use lib.ListN.{length, drop, replicate};
 ghost use Rattle.edit.specs.Record.{push-use, insert-use, replace-use, remove-use, pop-use, move-use, operand, successor};
 ghost use Rattle.edit.specs.Taken.{fields-of, edit-of};
 ghost use Rattle.places.specs.Store.{usg, slots, useSets, Live};
-ghost use Rattle.places.specs.Roles.{missingCode, defKind};
+ghost use Rattle.places.specs.Roles.{missingCode, defKind, slotBy};
 ghost use Rattle.context.specs.Layout.{ncOf};
 ghost use Rattle.context.specs.Memory.{con, stateOf, Well, SoundStore};
 ghost use Rattle.context.specs.Reading.{listOf};
@@ -18,7 +18,7 @@ ghost use Rattle.context.specs.Steps.{CanMove};
 ghost use Rattle.context.specs.Performed.{Performed};
 ghost use Rattle.uses.specs.Some.{Between, PlacedOne, PlacedAll};
 ghost use Rattle.uses.specs.Retarget.{BlockOf, MarkedOne, Marks, Chosen, RetargetedOne, RetargetedAll};
-ghost use Rattle.uses.specs.Look.{slotBy, SlotFound, DefFound, GrowIs, DefNumberIs, Taken};
+ghost use Rattle.uses.specs.Look.{SlotFound, DefFound, GrowIs, DefNumberIs, Taken};
 
 // The field from which on kinds 34 and 35 list numbers.
 const FIRST_LISTED: usize = 2;

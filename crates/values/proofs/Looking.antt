@@ -12,7 +12,7 @@ use Rattle.edit.specs.Record.{Member, operation, block}
 use Rattle.rules.specs.Refusal.{check}
 use Rattle.places.specs.Store.{op, blk, val, results, arguments, valueUses, vals, useSets, Thing, Con, State, Live}
 use Rattle.places.specs.View.{num}
-use Rattle.places.specs.Roles.{Unnamed, missingCode, memberKind}
+use Rattle.places.specs.Roles.{Unnamed, missingCode, memberKind, memberBy}
 use Rattle.places.specs.Parts.{rowsOf}
 use Rattle.places.proofs.Rows.{mine}
 use Rattle.context.specs.declared.Layout.{Layout}
@@ -21,7 +21,7 @@ use Rattle.context.specs.Memory.{con, stateOf, SoundStore, Finds, RoomIs, First
 use Rattle.context.specs.Reading.{NthIs}
 use Rattle.context.specs.Steps.{Unused, EndedValue}
 use Rattle.context.proofs.Places.{place<}
-use Rattle.values.specs.Look.{memberBy, ValuesAt, ValuesFound, GrowIs, TakenValue}
+use Rattle.values.specs.Look.{ValuesAt, ValuesFound, GrowIs, TakenValue}
 
 pub member-0 : (w : ℕ) → w ≡ 0 → memberBy w ≡ operation
 member-0 w e = ap memberBy e

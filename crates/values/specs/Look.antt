@@ -3,12 +3,12 @@
 use mathlib.Core.Path.{_≡_}
 use mathlib.Core.Logic.{_≢_}
 use mathlib.Core.List.{List, []}
-use Prim.Native.Nat.{ℕ, zero, suc, _<_}
+use Prim.Native.Nat.{ℕ, _<_}
 use lib.Dec.{leb, ltb}
 use lib.ListN.{length, getD}
 use Rattle.bits.specs.declared.Found.{Found}
 use Rattle.bits.specs.declared.Found.the-variants.{At, Nothing}
-use Rattle.edit.specs.Record.{Member, operation, block}
+use Rattle.edit.specs.Record.{Member}
 use Rattle.rules.specs.Refusal.{check}
 use Rattle.places.specs.Store.{val, valueUses, vals, Live}
 use Rattle.places.specs.View.{num}
@@ -18,11 +18,6 @@ use Rattle.context.specs.Layout.{ncOf}
 use Rattle.context.specs.Memory.{con, stateOf, RoomFor, roomCode}
 use Rattle.context.specs.Reading.{listOf}
 use Rattle.context.specs.Steps.{EndedValue}
-
--- the code by which the functions are told an owner: 0 for an operation
-abbrev pub memberBy : ℕ → Member
-memberBy zero = operation
-memberBy (suc k) = block
 
 -- k is the list of values of the operation or block with the number n
 pub record ValuesAt (l : Layout) (m : List ℕ) (w : Member) (n k : ℕ) : Type 0 where

@@ -9,12 +9,12 @@ ghost use Prim.Native.Nat.{_+_, _-_, _<_};
 ghost use lib.ListN.{length};
 ghost use Rattle.edit.specs.Record.{push-value, insert-value, remove-value, pop-value};
 ghost use Rattle.places.specs.Store.{vals};
-ghost use Rattle.places.specs.Roles.{missingCode, memberKind};
+ghost use Rattle.places.specs.Roles.{missingCode, memberKind, memberBy};
 ghost use Rattle.context.specs.Layout.{ncOf};
 ghost use Rattle.context.specs.Memory.{con, Well, SoundStore};
 ghost use Rattle.context.specs.Reading.{listOf};
 ghost use Rattle.context.specs.Performed.{Performed};
-ghost use Rattle.values.specs.Look.{memberBy, ValuesFound, GrowIs, TakenValue};
+ghost use Rattle.values.specs.Look.{ValuesFound, GrowIs, TakenValue};
 
 // The list of values of the operation or block with this number.
 pub fn values_of(m: &[u32], l: Layout, w: usize, number: u32) -> Found

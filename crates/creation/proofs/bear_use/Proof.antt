@@ -1,8 +1,8 @@
 use Prim.Native.Nat.{_+_, _*_}
 use native.Mathlib.Omega.{arith}
 use Rattle.places.specs.Store.{op}
+use Rattle.places.specs.Roles.{slotBy}
 use Rattle.context.proofs.Places.{place<}
-use Rattle.creation.specs.Made.{slotBy}
 use Rattle.creation.proofs.Operations.{not-lost, can-use, used, slots-0, slots-1, sets-0, sets-1, value<, block<}
 use borrow.Author.Needs.{needs}
 use Rattle.creation.proofs.bear_use.Statement.{statement}

@@ -3,9 +3,9 @@ use native.Mathlib.Omega.{arith}
 use lib.ListN.{getD}
 use borrow.Author.Needs.{needs}
 use Rattle.edit.specs.Taken.{fields-of}
-use Rattle.places.specs.Roles.{defKind}
+use Rattle.places.specs.Roles.{defKind, slotBy}
 use Rattle.context.specs.Memory.{stateOf}
-use Rattle.creation.specs.Made.{slotBy, Named}
+use Rattle.creation.specs.Made.{Named}
 use Rattle.creation.proofs.Names.{one-lost, one-more, names-done}
 use Rattle.creation.proofs.names_code.Statement.{statement}
 use Rattle.creation.proofs.names_code.Tie as tie

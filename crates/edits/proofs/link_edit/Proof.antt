@@ -5,7 +5,7 @@ use Rattle.edit.proofs.ByKind.{kinds}
 use Rattle.edits.proofs.ByKind.{by-one, by-two}
 use Rattle.edit.specs.Record.{link-after, link-before, link-front, link-back, unlink}
 use Rattle.edit.specs.ByKind.{link-kinds}
-use Rattle.links.specs.Tests.{memberOf}
+use Rattle.places.specs.Roles.{memberBy}
 use borrow.Author.Needs.{needs}
 use Rattle.edits.proofs.link_edit.Statement.{statement}
 use Rattle.edits.proofs.link_edit.Tie as tie
@@ -25,7 +25,7 @@ same-length c = search needs
 returns : tie.Need-returns
 returns c =
     let b = c .before .before .before .before .before .before .before .before .before in
-    by-two (fields-of (b .args .rec .now)) (link-after (memberOf (b .args .w))) (link-kinds (memberOf (b .args .w))) (link-kinds (memberOf (b .args .w)) + b .args .step) (c .before .before .before .before .before .before .field .result) (c .before .before .before .before .before .field2 .result) (omega arith) (kinds (fields-of (b .args .rec .now)) .after-mark (memberOf (b .args .w))) (c .before .before .before .before .before .before .field .ensures) (c .before .before .before .before .before .field2 .ensures) (c .before .before .link-after .ensures)
+    by-two (fields-of (b .args .rec .now)) (link-after (memberBy (b .args .w))) (link-kinds (memberBy (b .args .w))) (link-kinds (memberBy (b .args .w)) + b .args .step) (c .before .before .before .before .before .before .field .result) (c .before .before .before .before .before .field2 .result) (omega arith) (kinds (fields-of (b .args .rec .now)) .after-mark (memberBy (b .args .w))) (c .before .before .before .before .before .before .field .ensures) (c .before .before .before .before .before .field2 .ensures) (c .before .before .link-after .ensures)
 
 link-before-requires : tie.Need-link-before-requires
 link-before-requires c κs = search needs
@@ -36,7 +36,7 @@ same-length-2 c = search needs
 returns-2 : tie.Need-returns-2
 returns-2 c =
     let b = c .before .before .before .before .before .before .before .before .before .before in
-    by-two (fields-of (b .args .rec .now)) (link-before (memberOf (b .args .w))) (link-kinds (memberOf (b .args .w)) + 1) (link-kinds (memberOf (b .args .w)) + b .args .step) (c .before .before .before .before .before .before .before .field .result) (c .before .before .before .before .before .before .field2 .result) (omega arith) (kinds (fields-of (b .args .rec .now)) .before-mark (memberOf (b .args .w))) (c .before .before .before .before .before .before .before .field .ensures) (c .before .before .before .before .before .before .field2 .ensures) (c .before .before .link-before .ensures)
+    by-two (fields-of (b .args .rec .now)) (link-before (memberBy (b .args .w))) (link-kinds (memberBy (b .args .w)) + 1) (link-kinds (memberBy (b .args .w)) + b .args .step) (c .before .before .before .before .before .before .before .field .result) (c .before .before .before .before .before .before .field2 .result) (omega arith) (kinds (fields-of (b .args .rec .now)) .before-mark (memberBy (b .args .w))) (c .before .before .before .before .before .before .before .field .ensures) (c .before .before .before .before .before .before .field2 .ensures) (c .before .before .link-before .ensures)
 
 link-front-requires : tie.Need-link-front-requires
 link-front-requires c κs = search needs
@@ -47,7 +47,7 @@ same-length-3 c = search needs
 returns-3 : tie.Need-returns-3
 returns-3 c =
     let b = c .before .before .before .before .before .before .before .before .before .before .before in
-    by-two (fields-of (b .args .rec .now)) (link-front (memberOf (b .args .w))) (link-kinds (memberOf (b .args .w)) + 2) (link-kinds (memberOf (b .args .w)) + b .args .step) (c .before .before .before .before .before .before .before .before .field .result) (c .before .before .before .before .before .before .before .field2 .result) (omega arith) (kinds (fields-of (b .args .rec .now)) .at-front (memberOf (b .args .w))) (c .before .before .before .before .before .before .before .before .field .ensures) (c .before .before .before .before .before .before .before .field2 .ensures) (c .before .before .link-front .ensures)
+    by-two (fields-of (b .args .rec .now)) (link-front (memberBy (b .args .w))) (link-kinds (memberBy (b .args .w)) + 2) (link-kinds (memberBy (b .args .w)) + b .args .step) (c .before .before .before .before .before .before .before .before .field .result) (c .before .before .before .before .before .before .before .field2 .result) (omega arith) (kinds (fields-of (b .args .rec .now)) .at-front (memberBy (b .args .w))) (c .before .before .before .before .before .before .before .before .field .ensures) (c .before .before .before .before .before .before .before .field2 .ensures) (c .before .before .link-front .ensures)
 
 link-back-requires : tie.Need-link-back-requires
 link-back-requires c κs = search needs
@@ -58,7 +58,7 @@ same-length-4 c = search needs
 returns-4 : tie.Need-returns-4
 returns-4 c =
     let b = c .before .before .before .before .before .before .before .before .before .before .before .before in
-    by-two (fields-of (b .args .rec .now)) (link-back (memberOf (b .args .w))) (link-kinds (memberOf (b .args .w)) + 3) (link-kinds (memberOf (b .args .w)) + b .args .step) (c .before .before .before .before .before .before .before .before .before .field .result) (c .before .before .before .before .before .before .before .before .field2 .result) (omega arith) (kinds (fields-of (b .args .rec .now)) .at-back (memberOf (b .args .w))) (c .before .before .before .before .before .before .before .before .before .field .ensures) (c .before .before .before .before .before .before .before .before .field2 .ensures) (c .before .before .link-back .ensures)
+    by-two (fields-of (b .args .rec .now)) (link-back (memberBy (b .args .w))) (link-kinds (memberBy (b .args .w)) + 3) (link-kinds (memberBy (b .args .w)) + b .args .step) (c .before .before .before .before .before .before .before .before .before .field .result) (c .before .before .before .before .before .before .before .before .field2 .result) (omega arith) (kinds (fields-of (b .args .rec .now)) .at-back (memberBy (b .args .w))) (c .before .before .before .before .before .before .before .before .before .field .ensures) (c .before .before .before .before .before .before .before .before .field2 .ensures) (c .before .before .link-back .ensures)
 
 unlink-from-requires : tie.Need-unlink-from-requires
 unlink-from-requires c κs = search needs
@@ -69,7 +69,7 @@ same-length-5 c = search needs
 returns-5 : tie.Need-returns-5
 returns-5 c =
     let b = c .before .before .before .before .before .before .before .before .before .before .before .before in
-    by-one (fields-of (b .args .rec .now)) (unlink (memberOf (b .args .w))) (link-kinds (memberOf (b .args .w)) + 4) (link-kinds (memberOf (b .args .w)) + b .args .step) (c .before .before .before .before .before .before .before .before .before .field .result) (omega arith) (kinds (fields-of (b .args .rec .now)) .taken-out (memberOf (b .args .w))) (c .before .before .before .before .before .before .before .before .before .field .ensures) (c .before .before .unlink-from .ensures)
+    by-one (fields-of (b .args .rec .now)) (unlink (memberBy (b .args .w))) (link-kinds (memberBy (b .args .w)) + 4) (link-kinds (memberBy (b .args .w)) + b .args .step) (c .before .before .before .before .before .before .before .before .before .field .result) (omega arith) (kinds (fields-of (b .args .rec .now)) .taken-out (memberBy (b .args .w))) (c .before .before .before .before .before .before .before .before .before .field .ensures) (c .before .before .unlink-from .ensures)
 
 pub link-edit-spec : {M : Type 1} → statement M
 link-edit-spec =

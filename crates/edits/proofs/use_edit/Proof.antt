@@ -5,7 +5,7 @@ use Rattle.edit.proofs.ByKind.{kinds}
 use Rattle.edits.proofs.ByKind.{by-one, by-two, by-three}
 use Rattle.edit.specs.Record.{push-use, insert-use, replace-use, remove-use, pop-use}
 use Rattle.edit.specs.ByKind.{use-kinds}
-use Rattle.uses.specs.Look.{slotBy}
+use Rattle.places.specs.Roles.{slotBy}
 use borrow.Author.Needs.{needs}
 use Rattle.edits.proofs.use_edit.Statement.{statement}
 use Rattle.edits.proofs.use_edit.Tie as tie

@@ -5,7 +5,7 @@ use Rattle.edit.proofs.ByKind.{kinds}
 use Rattle.edits.proofs.ByKind.{by-one, by-two, by-three}
 use Rattle.edit.specs.Record.{push-value, insert-value, remove-value, pop-value}
 use Rattle.edit.specs.ByKind.{value-kinds}
-use Rattle.values.specs.Look.{memberBy}
+use Rattle.places.specs.Roles.{memberBy}
 use borrow.Author.Needs.{needs}
 use Rattle.edits.proofs.value_edit.Statement.{statement}
 use Rattle.edits.proofs.value_edit.Tie as tie

@@ -1,8 +1,9 @@
 use Rattle.links.proofs.Testing.{no-test, missing-some, no-member-beside, no-mark-beside, tests-beside, standing}
 use Rattle.links.proofs.Sorts.{member-at, no-member}
 use Rattle.context.specs.Memory.{stateOf}
-use Rattle.links.specs.Tests.{memberOf, missingCode}
+use Rattle.links.specs.Tests.{missingCode}
 use Rattle.places.specs.Members.{besideCode}
+use Rattle.places.specs.Roles.{memberBy}
 use mathlib.Core.Path.{sym, _∙_}
 use borrow.Author.Needs.{needs}
 use Rattle.links.proofs.test_beside.Statement.{statement}
@@ -42,7 +43,7 @@ may-stand-by-requires : tie.Need-may-stand-by-requires
 may-stand-by-requires c κs = let s = c .before .before .before .before .before .before .before .before .before in (s .pre .0, (s .pre .1, ((member-at (s .args .w) (s .pre .1) (stateOf (s .args .l) (s .args .m .now)) (s .args .x) (c .before .before .before .before .before .before .before .find .result) (c .before .before .before .before .before .a .given .0 .0) (c .before .before .before .before .before .before .before .find .ensures) (c .before .before .before .before .before .a .given .1)) .0, (member-at (s .args .w) (s .pre .1) (stateOf (s .args .l) (s .args .m .now)) (s .args .mark) (c .before .before .before .find2 .result) (c .before .b .given .0 .0) (c .before .before .before .find2 .ensures) (c .before .b .given .1)) .0)))
 
 returns-3 : tie.Need-returns-3
-returns-3 c = let s = c .before .before .before .before .before .before .before .before .before .before .before in no-test (c .before .may-stand-by .result) (besideCode (stateOf (s .args .l) (s .args .m .now)) (memberOf (s .args .w)) (c .before .before .before .before .before .before .before .a .given .0 .0) (c .before .before .before .b .given .0 .0)) (c .before .may-stand-by .ensures) (c .if1 .taken) (tests-beside (s .pre .0) (s .args .w) (s .pre .1) (s .args .x) (s .args .mark) (c .before .before .before .before .before .before .before .a .given .0 .0) (member-at (s .args .w) (s .pre .1) (stateOf (s .args .l) (s .args .m .now)) (s .args .x) (c .before .before .before .before .before .before .before .before .before .find .result) (c .before .before .before .before .before .before .before .a .given .0 .0) (c .before .before .before .before .before .before .before .before .before .find .ensures) (c .before .before .before .before .before .before .before .a .given .1)) (c .before .before .before .b .given .0 .0) (member-at (s .args .w) (s .pre .1) (stateOf (s .args .l) (s .args .m .now)) (s .args .mark) (c .before .before .before .before .before .find2 .result) (c .before .before .before .b .given .0 .0) (c .before .before .before .before .before .find2 .ensures) (c .before .before .before .b .given .1)))
+returns-3 c = let s = c .before .before .before .before .before .before .before .before .before .before .before in no-test (c .before .may-stand-by .result) (besideCode (stateOf (s .args .l) (s .args .m .now)) (memberBy (s .args .w)) (c .before .before .before .before .before .before .before .a .given .0 .0) (c .before .before .before .b .given .0 .0)) (c .before .may-stand-by .ensures) (c .if1 .taken) (tests-beside (s .pre .0) (s .args .w) (s .pre .1) (s .args .x) (s .args .mark) (c .before .before .before .before .before .before .before .a .given .0 .0) (member-at (s .args .w) (s .pre .1) (stateOf (s .args .l) (s .args .m .now)) (s .args .x) (c .before .before .before .before .before .before .before .before .before .find .result) (c .before .before .before .before .before .before .before .a .given .0 .0) (c .before .before .before .before .before .before .before .before .before .find .ensures) (c .before .before .before .before .before .before .before .a .given .1)) (c .before .before .before .b .given .0 .0) (member-at (s .args .w) (s .pre .1) (stateOf (s .args .l) (s .args .m .now)) (s .args .mark) (c .before .before .before .before .before .find2 .result) (c .before .before .before .b .given .0 .0) (c .before .before .before .before .before .find2 .ensures) (c .before .before .before .b .given .1)))
 
 returns-4 : tie.Need-returns-4
 returns-4 c = let s = c .before .before .before .before .before .before .before .before .before .before .before in standing (s .pre .0) (s .args .w) (s .pre .1) (s .args .x) (s .args .mark) (c .before .before .before .before .before .before .before .a .given .0 .0) (member-at (s .args .w) (s .pre .1) (stateOf (s .args .l) (s .args .m .now)) (s .args .x) (c .before .before .before .before .before .before .before .before .before .find .result) (c .before .before .before .before .before .before .before .a .given .0 .0) (c .before .before .before .before .before .before .before .before .before .find .ensures) (c .before .before .before .before .before .before .before .a .given .1)) (c .before .before .before .b .given .0 .0) (member-at (s .args .w) (s .pre .1) (stateOf (s .args .l) (s .args .m .now)) (s .args .mark) (c .before .before .before .before .before .find2 .result) (c .before .before .before .b .given .0 .0) (c .before .before .before .before .before .find2 .ensures) (c .before .before .before .b .given .1)) (sym (c .before .may-stand-by .ensures) ∙ c .if1 .left)

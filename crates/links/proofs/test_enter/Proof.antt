@@ -1,8 +1,9 @@
 use Rattle.links.proofs.Testing.{no-test, missing-some, no-member-front, no-container-front, tests-front, entering}
 use Rattle.links.proofs.Sorts.{member-at, no-member, container-at, no-container}
 use Rattle.context.specs.Memory.{stateOf}
-use Rattle.links.specs.Tests.{memberOf, missingCode}
+use Rattle.links.specs.Tests.{missingCode}
 use Rattle.places.specs.Members.{enterCode}
+use Rattle.places.specs.Roles.{memberBy}
 use mathlib.Core.Path.{sym, _∙_}
 use Prim.Native.Nat.{_+_}
 use borrow.Author.Needs.{needs}
@@ -49,7 +50,7 @@ may-enter-requires : tie.Need-may-enter-requires
 may-enter-requires c κs = let s = c .before .before .before .before .before .before .before .before .before in (s .pre .0, (s .pre .1, ((member-at (s .args .w) (s .pre .1) (stateOf (s .args .l) (s .args .m .now)) (s .args .x) (c .before .before .before .before .before .before .before .find .result) (c .before .before .before .before .before .a .given .0 .0) (c .before .before .before .before .before .before .before .find .ensures) (c .before .before .before .before .before .a .given .1)) .0, (container-at (s .args .w) (s .pre .1) (stateOf (s .args .l) (s .args .m .now)) (s .args .c) (c .before .before .before .find2 .result) (c .before .b .given .0 .0) (c .before .before .before .find2 .ensures) (c .before .b .given .1)) .0)))
 
 returns-3 : tie.Need-returns-3
-returns-3 c = let s = c .before .before .before .before .before .before .before .before .before .before .before in no-test (c .before .may-enter .result) (enterCode (stateOf (s .args .l) (s .args .m .now)) (memberOf (s .args .w)) (c .before .before .before .before .before .before .before .a .given .0 .0) (c .before .before .before .b .given .0 .0)) (c .before .may-enter .ensures) (c .if1 .taken) (tests-front (s .pre .0) (s .args .w) (s .pre .1) (s .args .x) (s .args .c) (c .before .before .before .before .before .before .before .a .given .0 .0) (member-at (s .args .w) (s .pre .1) (stateOf (s .args .l) (s .args .m .now)) (s .args .x) (c .before .before .before .before .before .before .before .before .before .find .result) (c .before .before .before .before .before .before .before .a .given .0 .0) (c .before .before .before .before .before .before .before .before .before .find .ensures) (c .before .before .before .before .before .before .before .a .given .1)) (c .before .before .before .b .given .0 .0) (container-at (s .args .w) (s .pre .1) (stateOf (s .args .l) (s .args .m .now)) (s .args .c) (c .before .before .before .before .before .find2 .result) (c .before .before .before .b .given .0 .0) (c .before .before .before .before .before .find2 .ensures) (c .before .before .before .b .given .1)))
+returns-3 c = let s = c .before .before .before .before .before .before .before .before .before .before .before in no-test (c .before .may-enter .result) (enterCode (stateOf (s .args .l) (s .args .m .now)) (memberBy (s .args .w)) (c .before .before .before .before .before .before .before .a .given .0 .0) (c .before .before .before .b .given .0 .0)) (c .before .may-enter .ensures) (c .if1 .taken) (tests-front (s .pre .0) (s .args .w) (s .pre .1) (s .args .x) (s .args .c) (c .before .before .before .before .before .before .before .a .given .0 .0) (member-at (s .args .w) (s .pre .1) (stateOf (s .args .l) (s .args .m .now)) (s .args .x) (c .before .before .before .before .before .before .before .before .before .find .result) (c .before .before .before .before .before .before .before .a .given .0 .0) (c .before .before .before .before .before .before .before .before .before .find .ensures) (c .before .before .before .before .before .before .before .a .given .1)) (c .before .before .before .b .given .0 .0) (container-at (s .args .w) (s .pre .1) (stateOf (s .args .l) (s .args .m .now)) (s .args .c) (c .before .before .before .before .before .find2 .result) (c .before .before .before .b .given .0 .0) (c .before .before .before .before .before .find2 .ensures) (c .before .before .before .b .given .1)))
 
 returns-4 : tie.Need-returns-4
 returns-4 c = let s = c .before .before .before .before .before .before .before .before .before .before .before in entering (s .pre .0) (s .args .w) (s .pre .1) (s .args .x) (s .args .c) (c .before .before .before .before .before .before .before .a .given .0 .0) (member-at (s .args .w) (s .pre .1) (stateOf (s .args .l) (s .args .m .now)) (s .args .x) (c .before .before .before .before .before .before .before .before .before .find .result) (c .before .before .before .before .before .before .before .a .given .0 .0) (c .before .before .before .before .before .before .before .before .before .find .ensures) (c .before .before .before .before .before .before .before .a .given .1)) (c .before .before .before .b .given .0 .0) (container-at (s .args .w) (s .pre .1) (stateOf (s .args .l) (s .args .m .now)) (s .args .c) (c .before .before .before .before .before .find2 .result) (c .before .before .before .b .given .0 .0) (c .before .before .before .before .before .find2 .ensures) (c .before .before .before .b .given .1)) (sym (c .before .may-enter .ensures) ∙ c .if1 .left)

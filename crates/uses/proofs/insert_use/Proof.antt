@@ -1,7 +1,7 @@
 use mathlib.Core.List.{[], _∷_}
 use Rattle.edit.specs.Record.{insert-use}
 use Rattle.rules.specs.Refusal.{definition-named}
-use Rattle.uses.specs.Look.{slotBy}
+use Rattle.places.specs.Roles.{slotBy}
 use Rattle.uses.proofs.Looking.{slot-at, slot-none, def-at, def-none, names-insert}
 use Rattle.uses.proofs.Growing.{lost-op, lost-def, can-bear, insert-refused, inserted}
 use borrow.Author.Needs.{needs}

@@ -2,10 +2,10 @@ use mathlib.Core.List.{[], _∷_}
 use native.Mathlib.Omega.{arith}
 use Rattle.edit.specs.Record.{move-use}
 use Rattle.rules.specs.Refusal.{definition-named}
-use Rattle.uses.specs.Look.{slotBy}
 use Rattle.uses.proofs.Looking.{def-at, def-none, names-move}
 use Rattle.uses.proofs.Moving.{use-live, lost-this, lost-other, stays, no-use, elsewhere, can-move, moved}
 use Rattle.places.specs.Store.{usg}
+use Rattle.places.specs.Roles.{slotBy}
 use Rattle.context.proofs.Places.{place<}
 use borrow.Author.Needs.{needs}
 use Rattle.uses.proofs.move_use_to.Statement.{statement}

@@ -3,7 +3,7 @@ use mathlib.Core.Path.{refl}
 use mathlib.Core.List.{[]}
 use native.Mathlib.Omega.{arith}
 use Rattle.edit.specs.Record.{pop-use}
-use Rattle.uses.specs.Look.{slotBy}
+use Rattle.places.specs.Roles.{slotBy}
 use Rattle.uses.proofs.Looking.{slot-at, slot-none, names-pop}
 use Rattle.uses.proofs.Growing.{lost-op}
 use Rattle.uses.proofs.Taking.{pop-refused, popped}

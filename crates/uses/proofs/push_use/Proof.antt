@@ -3,7 +3,7 @@ use mathlib.Core.List.{[], _∷_}
 use native.Mathlib.Omega.{arith}
 use Rattle.edit.specs.Record.{push-use}
 use Rattle.rules.specs.Refusal.{definition-named}
-use Rattle.uses.specs.Look.{slotBy}
+use Rattle.places.specs.Roles.{slotBy}
 use Rattle.uses.proofs.Looking.{slot-at, slot-none, def-at, def-none, names-push}
 use Rattle.uses.proofs.Growing.{lost-op, lost-def, can-bear, push-refused, pushed}
 use borrow.Author.Needs.{needs}

@@ -1,7 +1,7 @@
 use mathlib.Core.List.{[]}
 use native.Mathlib.Omega.{arith}
 use Rattle.edit.specs.Record.{remove-use}
-use Rattle.uses.specs.Look.{slotBy}
+use Rattle.places.specs.Roles.{slotBy}
 use Rattle.uses.proofs.Looking.{slot-at, slot-none, names-remove}
 use Rattle.uses.proofs.Growing.{lost-op}
 use Rattle.uses.proofs.Taking.{remove-refused, removed}

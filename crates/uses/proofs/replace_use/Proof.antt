@@ -2,7 +2,7 @@ use mathlib.Core.List.{[], _∷_}
 use native.Mathlib.Omega.{arith}
 use Rattle.edit.specs.Record.{replace-use}
 use Rattle.rules.specs.Refusal.{definition-named}
-use Rattle.uses.specs.Look.{slotBy}
+use Rattle.places.specs.Roles.{slotBy}
 use Rattle.uses.proofs.Looking.{slot-at, slot-none, def-at, def-none, names-replace}
 use Rattle.uses.proofs.Growing.{lost-op, lost-def}
 use Rattle.uses.proofs.Taking.{nth-live}

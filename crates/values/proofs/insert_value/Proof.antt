@@ -1,6 +1,6 @@
 use mathlib.Core.List.{[]}
 use Rattle.edit.specs.Record.{insert-value}
-use Rattle.values.specs.Look.{memberBy}
+use Rattle.places.specs.Roles.{memberBy}
 use Rattle.values.proofs.Looking.{values-at, values-none}
 use Rattle.values.proofs.Growing.{names-insert, lost-owner, can-bear, insert-refused, inserted}
 use borrow.Author.Needs.{needs}

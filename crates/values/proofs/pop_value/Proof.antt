@@ -3,7 +3,7 @@ use Prim.Native.Nat.{_-_}
 use mathlib.Core.Path.{refl}
 use mathlib.Core.List.{[]}
 use Rattle.edit.specs.Record.{pop-value}
-use Rattle.values.specs.Look.{memberBy}
+use Rattle.places.specs.Roles.{memberBy}
 use Rattle.values.proofs.Looking.{values-at, values-none}
 use Rattle.values.proofs.Growing.{lost-owner}
 use Rattle.values.proofs.Taking.{names-pop, pop-empty, pop-used, popped}

@@ -2,7 +2,7 @@ use native.Mathlib.Omega.{arith}
 use mathlib.Core.Path.{refl}
 use mathlib.Core.List.{[]}
 use Rattle.edit.specs.Record.{push-value}
-use Rattle.values.specs.Look.{memberBy}
+use Rattle.places.specs.Roles.{memberBy}
 use Rattle.values.proofs.Looking.{values-at, values-none}
 use Rattle.values.proofs.Growing.{names-push, lost-owner, can-bear, push-refused, pushed}
 use borrow.Author.Needs.{needs}

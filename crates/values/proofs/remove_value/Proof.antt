@@ -1,7 +1,7 @@
 use native.Mathlib.Omega.{arith}
 use mathlib.Core.List.{[]}
 use Rattle.edit.specs.Record.{remove-value}
-use Rattle.values.specs.Look.{memberBy}
+use Rattle.places.specs.Roles.{memberBy}
 use Rattle.values.proofs.Looking.{values-at, values-none}
 use Rattle.values.proofs.Growing.{lost-owner}
 use Rattle.values.proofs.Taking.{names-remove, remove-past, remove-used, removed}

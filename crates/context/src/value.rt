@@ -9,8 +9,10 @@ use super::lists::enter_back;
 use super::lists::leave;
 use super::put_cell;
 use super::types_at;
+ghost use mathlib.Core.Path.{_≡_};
 ghost use Prim.Native.Nat.{_<_};
 ghost use Rattle.places.specs.Store.{Live, val, usg, vals, useSets, slots};
+ghost use Rattle.places.specs.Roles.{missingCode, defKind, slotBy};
 ghost use Rattle.context.specs.Layout.{ncOf};
 ghost use Rattle.context.specs.Memory.{con, stateOf, Well, SoundStore, MayTag, Tagged};
 ghost use Rattle.context.specs.Reading.{TagIs, UserIs};
@@ -106,4 +108,14 @@ pub fn user_of(m: &[u32], l: Layout, u: usize) -> usize
 {
     let h = home_of(m, l, 0, u);
     (h - 1) / 2
+}
+
+// The refusal where no live value (`sl` 0) or block has the number.
+pub fn missing(sl: usize) -> u32
+    ensures { λ r. ⌜ r ≡ missingCode (defKind (slotBy sl)) ⌝ }
+{
+    if sl == 0 {
+        return 10;
+    }
+    8
 }

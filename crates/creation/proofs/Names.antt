@@ -21,26 +21,14 @@ use Rattle.places.proofs.RuleAccept.{endedOf}
 use Rattle.context.specs.declared.Layout.{Layout}
 use Rattle.context.specs.Memory.{stateOf, SoundStore, Finds}
 use Rattle.context.specs.Performed.{abs}
+use Rattle.context.proofs.Codes.{slot-0, slot-1}
 use Rattle.creation.specs.Made.{Named, NamesIs}
-
-pub slot-0 : (sl : ℕ) → sl ≡ 0 → slotBy sl ≡ operand
-slot-0 sl e = ap slotBy e
-
-pub slot-1 : (sl : ℕ) → sl ≢ 0 → slotBy sl ≡ successor
-slot-1 zero n = absurd (n refl)
-slot-1 (suc k) n = refl
 
 pub found-value : (P : State) (sl n : ℕ) (a : Found) → sl ≡ 0 → Finds P val n a → Finds P (defKind (slotBy sl)) n a
 found-value P sl n a e F = rw (slot-0 sl e) F
 
 pub found-block : (P : State) (sl n : ℕ) (a : Found) → sl ≢ 0 → Finds P blk n a → Finds P (defKind (slotBy sl)) n a
 found-block P sl n a e F = rw (slot-1 sl e) F
-
-pub missing-value : (sl : ℕ) → sl ≡ 0 → 10 ≡ missingCode (defKind (slotBy sl))
-missing-value sl z = rw (slot-0 sl z)
-
-pub missing-block : (sl : ℕ) → sl ≢ 0 → 8 ≡ missingCode (defKind (slotBy sl))
-missing-block sl z = rw (slot-1 sl z)
 
 -- ---- names in a row
 

@@ -42,12 +42,13 @@ use Rattle.context.specs.Memory.{con, stateOf, partsOf, SoundStore, RoomFor, Fi
 use Rattle.context.specs.Reading.{NextNumberIs}
 use Rattle.context.specs.Steps.{BorneOp, CanBearValue, BorneValue, CanBear, BorneUse, CanHold, BorneRegion}
 use Rattle.context.specs.Performed.{abs, Performed}
+use Rattle.context.proofs.Codes.{slot-0, slot-1}
 use Rattle.context.proofs.Places.{place<}
 use Rattle.context.proofs.Performing.{refuses, accepts}
 use Rattle.creation.specs.Room.{five, RoomIs}
 use Rattle.creation.specs.Made.{NamesIs, CanUse, Used, Counts, OperationReady, OperationTested, grown, least, OperationPartly, gone, Made}
 use Rattle.creation.proofs.Listed.{part-none, part-more}
-use Rattle.creation.proofs.Names.{slot-0, slot-1, all-there}
+use Rattle.creation.proofs.Names.{all-there}
 
 cap-is : (l : Layout) (m : List ℕ) (k : Kind) → stateOf l m .tab k .cap ≡ capOf l k
 unfolding store partsOf

@@ -11,7 +11,7 @@ ghost use Rattle.table.specs.Table.{Says};
 ghost use Rattle.edit.specs.Taken.{fields-of, edit-of, Passed};
 ghost use Rattle.rules.specs.Refusal.{lacks, numbers, live-counts};
 ghost use Rattle.context.specs.Layout.{capOf, kindOf};
-ghost use Rattle.places.specs.Roles.{missingCode, defKind, slotBy};
+ghost use Rattle.places.specs.Roles.{defKind, slotBy};
 ghost use Rattle.context.specs.Memory.{stateOf, Well, SoundStore, Finds};
 ghost use Rattle.context.specs.Performed.{abs, Performed};
 ghost use Rattle.creation.specs.Room.{five, spare, left, LackIs, RoomIs};
@@ -140,16 +140,6 @@ fn definition(m: &[u32], l: Layout, sl: usize, number: u32) -> Found
     context::find(m, l, 1, number)
 }
 
-// The refusal where no live definition has the number.
-fn missing(sl: usize) -> u32
-    ensures { λ r. ⌜ r ≡ missingCode (defKind (slotBy sl)) ⌝ }
-{
-    if sl == 0 {
-        return 10;
-    }
-    8
-}
-
 // Whether the `n` definitions that the record lists from the field `at` on are there: 0, or the refusal.
 fn names_code(m: &[u32], l: Layout, rec: &[u8], sl: usize, at: usize, n: usize) -> u32
     requires { ⌜ SoundStore l (now m) ⌝ }
@@ -162,7 +152,7 @@ fn names_code(m: &[u32], l: Layout, rec: &[u8], sl: usize, at: usize, n: usize) 
         let d = edit::field(rec, at + j);
         let a = definition(m, l, sl, d);
         let Found::At(p) = a else {
-            return missing(sl);
+            return context::value::missing(sl);
         };
         j += 1;
     }

@@ -3,7 +3,7 @@ use mathlib.Core.Path.{_≡_, refl, sym, ap, _∙_}
 use mathlib.Core.Logic.{_≢_, if-pos, if-neg}
 use mathlib.Core.List.{List, [], _∷_}
 use mathlib.Core.Option.{some}
-use Prim.Native.Nat.{ℕ, zero, suc, _+_, _-_, _*_, _≤_, _<_}
+use Prim.Native.Nat.{ℕ, _+_, _-_, _*_, _≤_, _<_}
 use native.Mathlib.Decide.{decLt}
 use native.Mathlib.Omega.{arith}
 use borrow.Author.Tests.{lt-ltb, le-ltb, le-leb, lt-leb}
@@ -13,22 +13,16 @@ use Rattle.edit.specs.Record.{Slot, operand, successor, push-use, insert-use, r
 use Rattle.rules.specs.Refusal.{operation-named, definition-named, named, check}
 use Rattle.places.specs.Store.{op, blk, val, usg, operands, successors, valueUses, blockUses, useSets, Con, State, Live}
 use Rattle.places.specs.View.{num}
-use Rattle.places.specs.Roles.{Unnamed, missingCode, defKind, slotBy}
+use Rattle.places.specs.Roles.{Unnamed, defKind, slotBy}
 use Rattle.places.specs.Parts.{rowsOf}
 use Rattle.places.proofs.Rows.{mine}
 use Rattle.context.specs.declared.Layout.{Layout}
 use Rattle.context.specs.Memory.{con, rowsFor, stateOf, SoundStore, Finds, RoomIs}
 use Rattle.context.specs.Reading.{NumberIs}
+use Rattle.context.proofs.Codes.{slot-0, slot-1}
 use Rattle.context.proofs.Families.{con-back}
 use Rattle.context.proofs.Places.{place<}
 use Rattle.uses.specs.Look.{SlotAt, SlotFound, DefAt, DefFound, GrowIs, DefNumberIs}
-
-pub slot-0 : (sl : ℕ) → sl ≡ 0 → slotBy sl ≡ operand
-slot-0 sl e = ap slotBy e
-
-pub slot-1 : (sl : ℕ) → sl ≢ 0 → slotBy sl ≡ successor
-slot-1 zero n = absurd (n refl)
-slot-1 (suc k) n = refl
 
 module _ {l : Layout} {m : List ℕ} (S : SoundStore l m) (sl n : ℕ) where
   abbrev P : State
@@ -77,14 +71,6 @@ module _ {l : Layout} {m : List ℕ} (S : SoundStore l m) (sl n : ℕ) where
     pub block-found : sl ≢ 0 → DefAt l m (slotBy sl) n (l .values + b)
     unfolding rowsOf
     block-found z = rw (slot-1 sl z) (record { place = b; live = b-is .0; number = b-is .1; row = mine (l .values) (l .ops) blockUses b tt; inside = omega (arith, b<) })
-
--- ---- the refusal of a definition
-
-pub missing-value : (sl : ℕ) → sl ≡ 0 → 10 ≡ missingCode (defKind (slotBy sl))
-missing-value sl z = rw (slot-0 sl z)
-
-pub missing-block : (sl : ℕ) → sl ≢ 0 → 8 ≡ missingCode (defKind (slotBy sl))
-missing-block sl z = rw (slot-1 sl z)
 
 -- ---- whether a list can grow
 

@@ -10,7 +10,7 @@ ghost use lib.ListN.{length, drop, replicate};
 ghost use Rattle.edit.specs.Record.{push-use, insert-use, replace-use, remove-use, pop-use, move-use, operand, successor};
 ghost use Rattle.edit.specs.Taken.{fields-of, edit-of};
 ghost use Rattle.places.specs.Store.{usg, slots, useSets, Live};
-ghost use Rattle.places.specs.Roles.{missingCode, defKind, slotBy};
+ghost use Rattle.places.specs.Roles.{slotBy};
 ghost use Rattle.context.specs.Layout.{ncOf};
 ghost use Rattle.context.specs.Memory.{con, stateOf, Well, SoundStore};
 ghost use Rattle.context.specs.Reading.{listOf};
@@ -53,16 +53,6 @@ pub fn def_of(m: &[u32], l: Layout, sl: usize, number: u32) -> Found
     Found::At(l.values + b)
 }
 
-// The refusal where no live definition has the number.
-pub fn missing(sl: usize) -> u32
-    ensures { λ r. ⌜ r ≡ missingCode (defKind (slotBy sl)) ⌝ }
-{
-    if sl == 0 {
-        return 10;
-    }
-    8
-}
-
 // Whether a list of `n` uses can grow at index `i`: 0, or the refusal.
 pub fn grow_code(m: &[u32], l: Layout, n: usize, i: usize) -> u32
     requires { ⌜ Well l (now m) ⌝ }
@@ -100,7 +90,7 @@ pub fn push_use(m: &mut [u32], l: Layout, sl: usize, number: u32, def: u32) -> A
     };
     let b = def_of(m, l, sl, def);
     let Found::At(d) = b else {
-        return Answer::Refused(missing(sl));
+        return Answer::Refused(context::value::missing(sl));
     };
     let n = context::row_length(m, l, 0, s);
     let c = grow_code(m, l, n, n);
@@ -122,7 +112,7 @@ pub fn insert_use(m: &mut [u32], l: Layout, sl: usize, number: u32, index: u32, 
     };
     let b = def_of(m, l, sl, def);
     let Found::At(d) = b else {
-        return Answer::Refused(missing(sl));
+        return Answer::Refused(context::value::missing(sl));
     };
     let i = index as usize;
     let n = context::row_length(m, l, 0, s);
@@ -197,11 +187,11 @@ pub fn move_use_to(
 {
     let a = def_of(m, l, sl, this);
     let Found::At(d) = a else {
-        return Answer::Refused(missing(sl));
+        return Answer::Refused(context::value::missing(sl));
     };
     let b = def_of(m, l, sl, other);
     let Found::At(e) = b else {
-        return Answer::Refused(missing(sl));
+        return Answer::Refused(context::value::missing(sl));
     };
     if this == other {
         return Answer::Accepted(0, 0);
@@ -229,7 +219,7 @@ pub fn replace_use(m: &mut [u32], l: Layout, sl: usize, number: u32, index: u32,
     };
     let b = def_of(m, l, sl, def);
     let Found::At(d) = b else {
-        return Answer::Refused(missing(sl));
+        return Answer::Refused(context::value::missing(sl));
     };
     let i = index as usize;
     let n = context::row_length(m, l, 0, s);

@@ -61,7 +61,7 @@ const RULES: [&str; 22] = [
      any other wrong number after it.",
     "A new operation: flags 0 to 3 and at most 64 results, operands, successors and regions. A new block: at most 64 arguments. Replace-some and retarget-some list at most 256 numbers.",
     "A store is started with five capacities: 1 to 4,096 operations, 1,024 blocks, 1,024 regions, 8,192 values and 16,384 uses, in a buffer of at least the words that they add up to.",
-    "Every call on a store checks all of its words first. A buffer that is no sound store is refused and kept as it is, and no answer is written. A script checks once, before its first record.",
+    "Every call on a store checks all of its words: a single edit once its record is read, a script once, before its first record. A buffer that is no sound store is refused and kept as it is, and no answer is written.",
     "The field holds the birth number of an operation that was born and has not ended.",
     "The field holds the birth number of a block that was born and has not ended.",
     "The field holds the birth number of a region that was born and has not ended.",

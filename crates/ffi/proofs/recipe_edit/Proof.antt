@@ -10,7 +10,7 @@ same-length : tie.Need-same-length
 same-length c = search needs
 
 returns : tie.Need-returns
-returns c = no-room (c .before .before .before .before .if1 .taken) (c .before .before .clear .ensures)
+returns c = no-room {s = c .before .before .before .before .before .before .before .before .before .args .scratch .now} (c .before .before .before .before .if1 .taken) (c .before .before .clear .ensures)
 
 edit-requires : tie.Need-edit-requires
 edit-requires c κs = search needs

@@ -3,6 +3,7 @@ use mathlib.Core.Path.{_≡_}
 use mathlib.Core.List.{List, [], _∷_}
 use mathlib.Core.Option.{Option, none, some}
 use Prim.Native.Nat.{ℕ, zero, suc, _≤_, _<_}
+use lib.Dec.{leb, ltb}
 use lib.ListN.{length, getD}
 use Rattle.seqs.specs.Split.{split}
 use Rattle.linked_list.specs.Links.{home, lists, Linked}
@@ -11,6 +12,7 @@ use Rattle.arena.specs.Packed.{Packed, front}
 use Rattle.seqs.specs.Seqs.{upd}
 use Rattle.places.specs.Store.{Thing-dec, Kind, op, blk, reg, val, usg, Fam, Thing, Con, State, alive, Live, Sound, birth, end, enter, leave}
 use Rattle.places.specs.View.{num}
+use Rattle.rules.specs.Refusal.{check}
 use Rattle.bits.specs.declared.Found.{Found}
 use Rattle.bits.specs.declared.Found.the-variants.{At, Nothing}
 use mathlib.Core.Logic.{_≢_, ite}
@@ -154,6 +156,12 @@ roomCode lives cap next = ite (decLt lives cap) (ite (decLt next 4294967295) 0 2
 pub record RoomIs (l : Layout) (k : Kind) (m : List ℕ) (r : ℕ) : Type 0 where
   pub is : r ≡ roomCode (length (stateOf l m .tab k .order)) (capOf l k) (stateOf l m .tab k .next)
   pub some : r ≡ 0 → RoomFor (stateOf l m) k (capOf l k)
+
+-- the code of a list of n things of the kind that is to grow at index i: 12, 19, and then 20 and 21
+pub record GrowIs (l : Layout) (k : Kind) (n i : ℕ) (m : List ℕ) (r : ℕ) : Type 0 where
+  pub is : r ≡ check (ltb n i) 12 (check (leb 64 n) 19 (roomCode (length (stateOf l m .tab k .order)) (capOf l k) (stateOf l m .tab k .next)))
+  pub short : r ≡ 0 → n < 64
+  pub room : r ≡ 0 → RoomFor (stateOf l m) k (capOf l k)
 
 -- what stands for the first of a list: its place + 1, and 0 for none
 abbrev pub headCode : List Thing → ℕ

@@ -12,7 +12,7 @@ ghost use Prim.Native.Nat.{_≤_, _<_};
 ghost use lib.ListN.{length, getD, set};
 ghost use Rattle.places.specs.Store.{Live, op, val};
 ghost use Rattle.context.specs.Layout.{capOf, ncOf, nnOf, total, famOf, kindOf, Caps, ArenaSize, HalfSize, FamiliesAt, SpanOf, RoomOf, TagsAt, TotalIs, HasTag};
-ghost use Rattle.context.specs.Memory.{con, stateOf, Well, RoomFor, Borne, Finished, Finds, HomeIs, LengthIs, RoomIs, FirstIs};
+ghost use Rattle.context.specs.Memory.{con, stateOf, Well, RoomFor, Borne, Finished, Finds, HomeIs, LengthIs, RoomIs, GrowIs, FirstIs};
 ghost use Rattle.context.specs.Reading.{listOf, NextIs, LastIs, NthIs, NumberIs, LiveIs, NextNumberIs, NthLiveIs};
 ghost use Rattle.context.specs.Steps.{Zeroed, Started};
 ghost use Rattle.context.specs.Start.{StartIs, WordsNeeded};
@@ -271,6 +271,20 @@ pub fn room_for(m: &[u32], l: Layout, k: usize) -> u32
         return 21;
     }
     0
+}
+
+// Whether a list of `n` things of the kind `k` can grow at index `i`: 0, or the refusal.
+pub fn grow_code(m: &[u32], l: Layout, k: usize, n: usize, i: usize) -> u32
+    requires { ⌜ Well l (now m) ⌝ }
+    ensures { λ r. ⌜ GrowIs l (kindOf k) n i (now (m .entry)) r ⌝ }
+{
+    if n < i {
+        return 12;
+    }
+    if n >= 64 {
+        return 19;
+    }
+    room_for(m, l, k)
 }
 
 // The birth number of the live thing of the kind `k` at the place `p`.

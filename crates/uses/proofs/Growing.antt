@@ -23,10 +23,10 @@ use Rattle.places.proofs.Settling.{settles-same, settles-birth-use, lowest-free
 use Rattle.places.proofs.RuleUses.{slot-fits, insert-accept, push-accept}
 use Rattle.places.proofs.RuleCodes.{lost-operation, second-lost, both-there, push-code, insert-code, push-answer}
 use Rattle.context.specs.declared.Layout.{Layout}
-use Rattle.context.specs.Memory.{con, stateOf, partsOf, SoundStore, LengthIs, roomCode}
+use Rattle.context.specs.Memory.{con, stateOf, partsOf, SoundStore, LengthIs, roomCode, GrowIs}
 use Rattle.context.specs.Steps.{CanBear, BorneUse}
 use Rattle.context.specs.Performed.{Performed}
-use Rattle.uses.specs.Look.{SlotAt, DefAt, GrowIs}
+use Rattle.uses.specs.Look.{SlotAt, DefAt}
 use Rattle.context.proofs.Performing.{refuses, accepts}
 
 pub cap-is : (l : Layout) (m : List ℕ) → stateOf l m .tab usg .cap ≡ l .uses
@@ -48,7 +48,7 @@ module _ {l : Layout} {m : List ℕ} (S : SoundStore l m) (E : Edit) (n : ℕ) w
 
 -- ---- the tests passed or not, where the use is put at index i
 
-module _ {l : Layout} {m : List ℕ} (S : SoundStore l m) (sl : Slot) (n d s k : ℕ) (A : SlotAt l m sl n s) (B : DefAt l m sl d k) (x : ℕ) (X : LengthIs l slots s m x) (i c : ℕ) (G : GrowIs l x i m c) where
+module _ {l : Layout} {m : List ℕ} (S : SoundStore l m) (sl : Slot) (n d s k : ℕ) (A : SlotAt l m sl n s) (B : DefAt l m sl d k) (x : ℕ) (X : LengthIs l slots s m x) (i c : ℕ) (G : GrowIs l usg x i m c) where
   abbrev P : State
   P = stateOf l m
 

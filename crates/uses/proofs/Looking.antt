@@ -2,27 +2,25 @@
 use mathlib.Core.Path.{_≡_, refl, sym, ap, _∙_}
 use mathlib.Core.Logic.{_≢_, if-pos, if-neg}
 use mathlib.Core.List.{List, [], _∷_}
-use mathlib.Core.Option.{some}
-use Prim.Native.Nat.{ℕ, _+_, _-_, _*_, _≤_, _<_}
+use Prim.Native.Nat.{ℕ, _+_, _-_, _*_, _<_}
 use native.Mathlib.Decide.{decLt}
 use native.Mathlib.Omega.{arith}
-use borrow.Author.Tests.{lt-ltb, le-ltb, le-leb, lt-leb}
 use Rattle.bits.specs.declared.Found.{Found}
 use Rattle.bits.specs.declared.Found.the-variants.{At, Nothing}
 use Rattle.edit.specs.Record.{Slot, operand, successor, push-use, insert-use, replace-use, remove-use, pop-use, move-use, replace-some, retarget-some}
-use Rattle.rules.specs.Refusal.{operation-named, definition-named, named, check}
-use Rattle.places.specs.Store.{op, blk, val, usg, operands, successors, valueUses, blockUses, useSets, Con, State, Live}
+use Rattle.rules.specs.Refusal.{operation-named, definition-named, named}
+use Rattle.places.specs.Store.{op, blk, val, operands, successors, valueUses, blockUses, useSets, Con, State, Live}
 use Rattle.places.specs.View.{num}
 use Rattle.places.specs.Roles.{Unnamed, defKind, slotBy}
 use Rattle.places.specs.Parts.{rowsOf}
 use Rattle.places.proofs.Rows.{mine}
 use Rattle.context.specs.declared.Layout.{Layout}
-use Rattle.context.specs.Memory.{con, rowsFor, stateOf, SoundStore, Finds, RoomIs}
+use Rattle.context.specs.Memory.{con, rowsFor, stateOf, SoundStore, Finds}
 use Rattle.context.specs.Reading.{NumberIs}
 use Rattle.context.proofs.Codes.{slot-0, slot-1}
 use Rattle.context.proofs.Families.{con-back}
 use Rattle.context.proofs.Places.{place<}
-use Rattle.uses.specs.Look.{SlotAt, SlotFound, DefAt, DefFound, GrowIs, DefNumberIs}
+use Rattle.uses.specs.Look.{SlotAt, SlotFound, DefAt, DefFound, DefNumberIs}
 
 module _ {l : Layout} {m : List ℕ} (S : SoundStore l m) (sl n : ℕ) where
   abbrev P : State
@@ -71,21 +69,6 @@ module _ {l : Layout} {m : List ℕ} (S : SoundStore l m) (sl n : ℕ) where
     pub block-found : sl ≢ 0 → DefAt l m (slotBy sl) n (l .values + b)
     unfolding rowsOf
     block-found z = rw (slot-1 sl z) (record { place = b; live = b-is .0; number = b-is .1; row = mine (l .values) (l .ops) blockUses b tt; inside = omega (arith, b<) })
-
--- ---- whether a list can grow
-
-module _ {l : Layout} {m : List ℕ} (n i : ℕ) where
-  pub past-end : n < i → GrowIs l n i m 12
-  unfolding check
-  past-end h = record { is = rw (lt-ltb n i h); short = λ z. absurd (omega (arith, z)); room = λ z. absurd (omega (arith, z)) }
-
-  pub full : (n < i → ⊥) → 64 ≤ n → GrowIs l n i m 19
-  unfolding check
-  full g h = record { is = rw (le-ltb n i (omega (arith, g)), le-leb 64 n h); short = λ z. absurd (omega (arith, z)); room = λ z. absurd (omega (arith, z)) }
-
-  pub grows : (n < i → ⊥) → n < 64 → (r : ℕ) → RoomIs l usg m r → GrowIs l n i m r
-  unfolding check
-  grows g h r R = record { is = R .is ∙ rw (le-ltb n i (omega (arith, g)), lt-leb 64 n h); short = λ z. h; room = R .some }
 
 -- ---- the number of a definition
 

@@ -4,18 +4,16 @@ use mathlib.Core.Path.{_≡_}
 use mathlib.Core.List.{List}
 use mathlib.Core.Option.{some}
 use Prim.Native.Nat.{ℕ, _<_}
-use lib.Dec.{leb, ltb}
-use lib.ListN.{length, getD}
+use lib.ListN.{getD}
 use Rattle.bits.specs.declared.Found.{Found}
 use Rattle.bits.specs.declared.Found.the-variants.{At, Nothing}
 use Rattle.edit.specs.Record.{Slot}
-use Rattle.rules.specs.Refusal.{check}
 use Rattle.places.specs.Store.{op, usg, slots, useSets, Con, Live}
 use Rattle.places.specs.View.{num}
 use Rattle.places.specs.Roles.{Unnamed, slotRole, defKind, defRole}
 use Rattle.context.specs.declared.Layout.{Layout}
 use Rattle.context.specs.Layout.{ncOf}
-use Rattle.context.specs.Memory.{con, stateOf, RoomFor, roomCode}
+use Rattle.context.specs.Memory.{con, stateOf}
 use Rattle.context.specs.Reading.{listOf}
 use Rattle.context.specs.Steps.{EndedUse}
 
@@ -42,12 +40,6 @@ pub record DefAt (l : Layout) (m : List ℕ) (sl : Slot) (n d : ℕ) : Type 0 wh
 abbrev pub DefFound : Layout → List ℕ → Slot → ℕ → Found → Type 0
 DefFound l m sl n (At d) = DefAt l m sl n d
 DefFound l m sl n Nothing = Unnamed (stateOf l m) (defKind sl) n
-
--- the code of a list of n that is to grow at index i: 12, 19, and then 20 and 21
-pub record GrowIs (l : Layout) (n i : ℕ) (m : List ℕ) (r : ℕ) : Type 0 where
-  pub is : r ≡ check (ltb n i) 12 (check (leb 64 n) 19 (roomCode (length (stateOf l m .tab usg .order)) (l .uses) (stateOf l m .tab usg .next)))
-  pub short : r ≡ 0 → n < 64
-  pub room : r ≡ 0 → RoomFor (stateOf l m) usg (l .uses)
 
 -- r is the number of the definition whose use set is d
 pub record DefNumberIs (l : Layout) (d : ℕ) (m : List ℕ) (r : ℕ) : Type 0 where

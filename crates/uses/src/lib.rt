@@ -18,7 +18,7 @@ ghost use Rattle.context.specs.Steps.{CanMove};
 ghost use Rattle.context.specs.Performed.{Performed};
 ghost use Rattle.uses.specs.Some.{Between, PlacedOne, PlacedAll};
 ghost use Rattle.uses.specs.Retarget.{BlockOf, MarkedOne, Marks, Chosen, RetargetedOne, RetargetedAll};
-ghost use Rattle.uses.specs.Look.{SlotFound, DefFound, GrowIs, DefNumberIs, Taken};
+ghost use Rattle.uses.specs.Look.{SlotFound, DefFound, DefNumberIs, Taken};
 
 // The field from which on kinds 34 and 35 list numbers.
 const FIRST_LISTED: usize = 2;
@@ -53,20 +53,6 @@ pub fn def_of(m: &[u32], l: Layout, sl: usize, number: u32) -> Found
     Found::At(l.values + b)
 }
 
-// Whether a list of `n` uses can grow at index `i`: 0, or the refusal.
-pub fn grow_code(m: &[u32], l: Layout, n: usize, i: usize) -> u32
-    requires { ⌜ Well l (now m) ⌝ }
-    ensures { λ r. ⌜ GrowIs l n i (now (m .entry)) r ⌝ }
-{
-    if n < i {
-        return 12;
-    }
-    if n >= 64 {
-        return 19;
-    }
-    context::room_for(m, l, 4)
-}
-
 // The number of the definition whose set of uses is `d`.
 pub fn def_number(m: &[u32], l: Layout, d: usize) -> u32
     requires { ⌜ Well l (now m) ⌝ }
@@ -93,7 +79,7 @@ pub fn push_use(m: &mut [u32], l: Layout, sl: usize, number: u32, def: u32) -> A
         return Answer::Refused(context::value::missing(sl));
     };
     let n = context::row_length(m, l, 0, s);
-    let c = grow_code(m, l, n, n);
+    let c = context::grow_code(m, l, 4, n, n);
     if c != 0 {
         return Answer::Refused(c);
     }
@@ -116,7 +102,7 @@ pub fn insert_use(m: &mut [u32], l: Layout, sl: usize, number: u32, index: u32, 
     };
     let i = index as usize;
     let n = context::row_length(m, l, 0, s);
-    let c = grow_code(m, l, n, i);
+    let c = context::grow_code(m, l, 4, n, i);
     if c != 0 {
         return Answer::Refused(c);
     }

@@ -22,10 +22,10 @@ use Rattle.places.proofs.RuleValues.{insert-value-accept, push-value-accept}
 use Rattle.places.proofs.RuleValueCodes.{owner-lost, owner-there, push-value-code, insert-value-code, push-value-answer}
 use Rattle.places.proofs.Settling.{settles-same, settles-birth, settles-enter, lowest-free}
 use Rattle.context.specs.declared.Layout.{Layout}
-use Rattle.context.specs.Memory.{con, stateOf, partsOf, SoundStore, LengthIs, roomCode}
+use Rattle.context.specs.Memory.{con, stateOf, partsOf, SoundStore, LengthIs, roomCode, GrowIs}
 use Rattle.context.specs.Steps.{CanBearValue, BorneValue}
 use Rattle.context.specs.Performed.{Performed}
-use Rattle.values.specs.Look.{ValuesAt, GrowIs}
+use Rattle.values.specs.Look.{ValuesAt}
 use Rattle.context.proofs.Performing.{refuses, accepts}
 
 pub cap-is : (l : Layout) (m : List ℕ) → stateOf l m .tab val .cap ≡ l .values
@@ -51,7 +51,7 @@ lost-owner S E w n c xs e u k = refuses E S c (owner-lost (S .sound) E w n xs e 
 
 -- ---- the tests passed or not, where the value is put at index i
 
-module _ {l : Layout} {m : List ℕ} (S : SoundStore l m) (w : Member) (n t k : ℕ) (A : ValuesAt l m w n k) (x : ℕ) (X : LengthIs l vals k m x) (i c : ℕ) (G : GrowIs l x i m c) where
+module _ {l : Layout} {m : List ℕ} (S : SoundStore l m) (w : Member) (n t k : ℕ) (A : ValuesAt l m w n k) (x : ℕ) (X : LengthIs l vals k m x) (i c : ℕ) (G : GrowIs l val x i m c) where
   abbrev P : State
   P = stateOf l m
 

@@ -2,14 +2,12 @@
 use mathlib.Core.Path.{_≡_, refl, sym, ap, _∙_}
 use mathlib.Core.Logic.{_≢_}
 use mathlib.Core.List.{List, [], _∷_}
-use Prim.Native.Nat.{ℕ, zero, suc, _+_, _≤_, _<_}
+use Prim.Native.Nat.{ℕ, zero, suc, _+_, _<_}
 use native.Mathlib.Omega.{arith}
 use lib.ListN.{length}
-use borrow.Author.Tests.{lt-ltb, le-ltb, le-leb, lt-leb}
 use Rattle.bits.specs.declared.Found.{Found}
 use Rattle.bits.specs.declared.Found.the-variants.{At, Nothing}
 use Rattle.edit.specs.Record.{Member, operation, block}
-use Rattle.rules.specs.Refusal.{check}
 use Rattle.places.specs.Store.{op, blk, val, results, arguments, valueUses, vals, useSets, Thing, Con, State, Live}
 use Rattle.places.specs.View.{num}
 use Rattle.places.specs.Roles.{Unnamed, missingCode, memberKind, memberBy}
@@ -17,11 +15,11 @@ use Rattle.places.specs.Parts.{rowsOf}
 use Rattle.places.proofs.Rows.{mine}
 use Rattle.context.specs.declared.Layout.{Layout}
 use Rattle.context.specs.Layout.{ncOf}
-use Rattle.context.specs.Memory.{con, stateOf, SoundStore, Finds, RoomIs, FirstIs, headCode}
+use Rattle.context.specs.Memory.{con, stateOf, SoundStore, Finds, FirstIs, headCode}
 use Rattle.context.specs.Reading.{NthIs}
 use Rattle.context.specs.Steps.{Unused, EndedValue}
 use Rattle.context.proofs.Places.{place<}
-use Rattle.values.specs.Look.{ValuesAt, ValuesFound, GrowIs, TakenValue}
+use Rattle.values.specs.Look.{ValuesAt, ValuesFound, TakenValue}
 
 pub member-0 : (w : ℕ) → w ≡ 0 → memberBy w ≡ operation
 member-0 w e = ap memberBy e
@@ -69,21 +67,6 @@ missing-operation w z = rw (member-0 w z)
 
 pub missing-block : (w : ℕ) → w ≢ 0 → 8 ≡ missingCode (memberKind (memberBy w))
 missing-block w z = rw (member-1 w z)
-
--- ---- whether a list can grow
-
-module _ {l : Layout} {m : List ℕ} (n i : ℕ) where
-  pub past-end : n < i → GrowIs l n i m 12
-  unfolding check
-  past-end h = record { is = rw (lt-ltb n i h); short = λ z. absurd (omega (arith, z)); room = λ z. absurd (omega (arith, z)) }
-
-  pub full : i ≤ n → 64 ≤ n → GrowIs l n i m 19
-  unfolding check
-  full g h = record { is = rw (le-ltb n i g, le-leb 64 n h); short = λ z. absurd (omega (arith, z)); room = λ z. absurd (omega (arith, z)) }
-
-  pub grows : i ≤ n → n < 64 → (r : ℕ) → RoomIs l val m r → GrowIs l n i m r
-  unfolding check
-  grows g h r R = record { is = R .is ∙ rw (le-ltb n i g, lt-leb 64 n h); short = λ z. h; room = R .some }
 
 -- ---- the value at an index, and whether it is used
 

@@ -4,18 +4,16 @@ use mathlib.Core.Path.{_≡_}
 use mathlib.Core.Logic.{_≢_}
 use mathlib.Core.List.{List, []}
 use Prim.Native.Nat.{ℕ, _<_}
-use lib.Dec.{leb, ltb}
 use lib.ListN.{length, getD}
 use Rattle.bits.specs.declared.Found.{Found}
 use Rattle.bits.specs.declared.Found.the-variants.{At, Nothing}
 use Rattle.edit.specs.Record.{Member}
-use Rattle.rules.specs.Refusal.{check}
 use Rattle.places.specs.Store.{val, valueUses, vals, Live}
 use Rattle.places.specs.View.{num}
 use Rattle.places.specs.Roles.{Unnamed, valueRole, memberKind}
 use Rattle.context.specs.declared.Layout.{Layout}
 use Rattle.context.specs.Layout.{ncOf}
-use Rattle.context.specs.Memory.{con, stateOf, RoomFor, roomCode}
+use Rattle.context.specs.Memory.{con, stateOf}
 use Rattle.context.specs.Reading.{listOf}
 use Rattle.context.specs.Steps.{EndedValue}
 
@@ -30,12 +28,6 @@ pub record ValuesAt (l : Layout) (m : List ℕ) (w : Member) (n k : ℕ) : Type 
 abbrev pub ValuesFound : Layout → List ℕ → Member → ℕ → Found → Type 0
 ValuesFound l m w n (At k) = ValuesAt l m w n k
 ValuesFound l m w n Nothing = Unnamed (stateOf l m) (memberKind w) n
-
--- the code of a list of n values that is to grow at index i: 12, 19, and then 20 and 21
-pub record GrowIs (l : Layout) (n i : ℕ) (m : List ℕ) (r : ℕ) : Type 0 where
-  pub is : r ≡ check (ltb n i) 12 (check (leb 64 n) 19 (roomCode (length (stateOf l m .tab val .order)) (l .values) (stateOf l m .tab val .next)))
-  pub short : r ≡ 0 → n < 64
-  pub room : r ≡ 0 → RoomFor (stateOf l m) val (l .values)
 
 -- the value at index i of the list k ended, and r is 0; or it is used, nothing changed, and r is 13
 pub record TakenValue (l : Layout) (k i : ℕ) (m m′ : List ℕ) (r : ℕ) : Type 0 where

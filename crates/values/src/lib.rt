@@ -11,10 +11,10 @@ ghost use Rattle.edit.specs.Record.{push-value, insert-value, remove-value, pop
 ghost use Rattle.places.specs.Store.{vals};
 ghost use Rattle.places.specs.Roles.{missingCode, memberKind, memberBy};
 ghost use Rattle.context.specs.Layout.{ncOf};
-ghost use Rattle.context.specs.Memory.{con, Well, SoundStore};
+ghost use Rattle.context.specs.Memory.{con, SoundStore};
 ghost use Rattle.context.specs.Reading.{listOf};
 ghost use Rattle.context.specs.Performed.{Performed};
-ghost use Rattle.values.specs.Look.{ValuesFound, GrowIs, TakenValue};
+ghost use Rattle.values.specs.Look.{ValuesFound, TakenValue};
 
 // The list of values of the operation or block with this number.
 pub fn values_of(m: &[u32], l: Layout, w: usize, number: u32) -> Found
@@ -41,20 +41,6 @@ pub fn missing(w: usize) -> u32
     8
 }
 
-// Whether a list of `n` values can grow at index `i`: 0, or the refusal.
-pub fn grow_code(m: &[u32], l: Layout, n: usize, i: usize) -> u32
-    requires { ⌜ Well l (now m) ⌝ }
-    ensures { λ r. ⌜ GrowIs l n i (now (m .entry)) r ⌝ }
-{
-    if n < i {
-        return 12;
-    }
-    if n >= 64 {
-        return 19;
-    }
-    context::room_for(m, l, 3)
-}
-
 // Kinds 13 and 17: a value of the type is put last.
 pub fn push_value(m: &mut [u32], l: Layout, w: usize, owner: u32, ty: u32) -> Answer
     requires { ⌜ SoundStore l (now m) ⌝ }
@@ -65,7 +51,7 @@ pub fn push_value(m: &mut [u32], l: Layout, w: usize, owner: u32, ty: u32) -> An
         return Answer::Refused(missing(w));
     };
     let n = context::row_length(m, l, 2, k);
-    let c = grow_code(m, l, n, n);
+    let c = context::grow_code(m, l, 3, n, n);
     if c != 0 {
         return Answer::Refused(c);
     }
@@ -84,7 +70,7 @@ pub fn insert_value(m: &mut [u32], l: Layout, w: usize, owner: u32, index: u32, 
     };
     let i = index as usize;
     let n = context::row_length(m, l, 2, k);
-    let c = grow_code(m, l, n, i);
+    let c = context::grow_code(m, l, 3, n, i);
     if c != 0 {
         return Answer::Refused(c);
     }

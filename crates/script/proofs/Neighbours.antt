@@ -2,7 +2,7 @@
 use mathlib.Core.Path.{_≡_, refl, sym, ap, _∙_}
 use mathlib.Core.List.{List, [], map, map-map}
 use mathlib.Core.Option.{Option, none, some}
-use Prim.Native.Nat.{ℕ, zero, suc, _+_, _*_, _<_}
+use Prim.Native.Nat.{ℕ, zero, suc, _<_}
 use lib.ListN.{getD}
 use Rattle.seqs.specs.Split.{split}
 use Rattle.linked_list.specs.Links.{at, home}
@@ -25,7 +25,7 @@ use Rattle.context.specs.Layout.{ncOf, nnOf, sizes, famPart}
 use Rattle.context.specs.Memory.{decode, part, partsOf, con, stateOf, Well}
 use Rattle.context.proofs.Families.{own-is}
 use Rattle.context.proofs.Families.{list-at as row-at}
-use Rattle.script.specs.See.{memberFam, place-of, linked, beside}
+use Rattle.script.specs.See.{memberFam, place-of, linked, next-cell, previous-cell, beside}
 use Rattle.script.proofs.Spots.{Spot, here, nowhere, spot}
 use Rattle.script.proofs.Seen.{container-gone}
 use Rattle.script.proofs.Beside.{named, Beside, alone, among}
@@ -90,8 +90,8 @@ module _ {l : Layout} {m : List ℕ} (W : Well l m) (S : Sound (stateOf l m)) (f
 
 -- what stands beside the thing x of the sort w, in the list of its container
 pub record Sides (l : Layout) (m : List ℕ) (w : Member) (x : ℕ) (members : List ℕ) : Type 0 where
-  pub next : beside l m (memberFam w) (2 * ncOf l (memberFam w)) (place-of (stateOf l m) (nodeIn (memberFam w)) x) ≡ next-of x members
-  pub previous : beside l m (memberFam w) (2 * ncOf l (memberFam w) + nnOf l (memberFam w)) (place-of (stateOf l m) (nodeIn (memberFam w)) x) ≡ previous-of x members
+  pub next : beside l m (memberFam w) (next-cell l (memberFam w)) (place-of (stateOf l m) (nodeIn (memberFam w)) x) ≡ next-of x members
+  pub previous : beside l m (memberFam w) (previous-cell l (memberFam w)) (place-of (stateOf l m) (nodeIn (memberFam w)) x) ≡ previous-of x members
 
 module _ {l : Layout} {m : List ℕ} (W : Well l m) (S : Sound (stateOf l m)) (e : ℕ) (w : Member) where
   abbrev Q : State
@@ -138,13 +138,13 @@ module _ {l : Layout} {m : List ℕ} (W : Well l m) (S : Sound (stateOf l m)) (e
     unfolding beside
     sides p X members z n B g =
         record {
-          next = ap (beside l m F (2 * ncOf l F)) z ∙ linked-named Q (nodeIn F) (decode (getD (part l m (famPart F)) (2 * ncOf l F + p) 0)) ∙ B .next ∙ ap (λ (j : ℕ). next-of j (map nums X)) n ∙ ap (next-of x) (sym g);
-          previous = ap (beside l m F (2 * ncOf l F + nnOf l F)) z ∙ linked-named Q (nodeIn F) (decode (getD (part l m (famPart F)) (2 * ncOf l F + nnOf l F + p) 0)) ∙ B .previous ∙ ap (λ (j : ℕ). previous-of j (map nums X)) n ∙ ap (previous-of x) (sym g);
+          next = ap (beside l m F (next-cell l F)) z ∙ linked-named Q (nodeIn F) (decode (getD (part l m (famPart F)) (next-cell l F p) 0)) ∙ B .next ∙ ap (λ (j : ℕ). next-of j (map nums X)) n ∙ ap (next-of x) (sym g);
+          previous = ap (beside l m F (previous-cell l F)) z ∙ linked-named Q (nodeIn F) (decode (getD (part l m (famPart F)) (previous-cell l F p) 0)) ∙ B .previous ∙ ap (λ (j : ℕ). previous-of j (map nums X)) n ∙ ap (previous-of x) (sym g);
         }
 
     no-sides : place-of Q (nodeIn F) x ≡ none → (members : List ℕ) → members ≡ [] → Sides l m w x members
     unfolding beside next-of previous-of
-    no-sides z members g = record { next = ap (beside l m F (2 * ncOf l F)) z ∙ ap (next-of x) (sym g); previous = ap (beside l m F (2 * ncOf l F + nnOf l F)) z ∙ ap (previous-of x) (sym g) }
+    no-sides z members g = record { next = ap (beside l m F (next-cell l F)) z ∙ ap (next-of x) (sym g); previous = ap (beside l m F (previous-cell l F)) z ∙ ap (previous-of x) (sym g) }
 
     live-sides : (p : ℕ) → place-of Q (nodeIn F) x ≡ some p → Live Q (nodeIn F, p) → nums p ≡ x → (n : ℕ) → getD (part l m (famPart F)) (home (ncOf l F) (nnOf l F) p) 0 ≡ n → Sides l m w x (listed (container w hh x))
     live-sides p z lp n zero h =

@@ -3,11 +3,12 @@
 use mathlib.Core.Bool.{Bool}
 use mathlib.Core.List.{List, [], _++_, map}
 use mathlib.Core.Option.{Option, none, some}
-use Prim.Native.Nat.{ℕ, _+_, _*_}
+use Prim.Native.Nat.{ℕ, suc}
 use lib.ListN.{getD}
 use Rattle.edit.specs.Record.{Member, operation, block, Thing, the-operation, the-block, the-region, Definition, of-value, of-block}
 use Rattle.rules.specs.Table.{find, is-some, concat}
 use Rattle.rules.specs.Demand.{View, as-thing}
+use Rattle.linked_list.specs.Links.{after, before}
 use Rattle.places.specs.Store.{Kind, op, blk, reg, val, usg, Role, valueUses, blockUses, results, arguments, ops, blocks, Fam, opsIn, blocksIn, State, up}
 use Rattle.places.specs.View.{num}
 use Rattle.places.specs.Parts.{nodeIn}
@@ -79,10 +80,17 @@ unfoldable pub linked : State → Kind → Option ℕ → Option ℕ
 linked P k none = none
 linked P k (some p) = some (num P (k, p))
 
--- the number that stands in the cells of the family f from the given one on, one for each node, at the node of the place
-unfoldable pub beside : Layout → List ℕ → Fam → ℕ → Option ℕ → Option ℕ
-beside l m f from none = none
-beside l m f from (some p) = linked (stateOf l m) (nodeIn f) (decode (getD (part l m (famPart f)) (from + p) 0))
+-- where the lists of the family f have the next of the node of a place, and its prev: the same in every container, so also in the container 0
+abbrev pub next-cell : Layout → Fam → ℕ → ℕ
+next-cell l f p = after (ncOf l f) (suc p) 0
+
+abbrev pub previous-cell : Layout → Fam → ℕ → ℕ
+previous-cell l f p = before (ncOf l f) (nnOf l f) (suc p) 0
+
+-- the number of the node that the given cell of the node of the place stands for
+unfoldable pub beside : Layout → List ℕ → Fam → (ℕ → ℕ) → Option ℕ → Option ℕ
+beside l m f cell none = none
+beside l m f cell (some p) = linked (stateOf l m) (nodeIn f) (decode (getD (part l m (famPart f)) (cell p) 0))
 
 -- what a thing lies in
 unfoldable pub see-up : State → Thing → Option Thing
@@ -101,8 +109,8 @@ see-at l m =
       use-set = λ d. list-of (stateOf l m) (definition-role d) (definition-key d);
       uses-at = λ sl o. list-of (stateOf l m) (slotRole sl) (op, o);
       members = λ w c. list-of (stateOf l m) (memberRole w) (containerKind w, c);
-      next = λ w x. beside l m (memberFam w) (2 * ncOf l (memberFam w)) (place-of (stateOf l m) (nodeIn (memberFam w)) x);
-      previous = λ w x. beside l m (memberFam w) (2 * ncOf l (memberFam w) + nnOf l (memberFam w)) (place-of (stateOf l m) (nodeIn (memberFam w)) x);
+      next = λ w x. beside l m (memberFam w) (next-cell l (memberFam w)) (place-of (stateOf l m) (nodeIn (memberFam w)) x);
+      previous = λ w x. beside l m (memberFam w) (previous-cell l (memberFam w)) (place-of (stateOf l m) (nodeIn (memberFam w)) x);
       up = see-up (stateOf l m);
     }
 

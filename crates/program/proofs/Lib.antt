@@ -1,3 +1,4 @@
 pub mod Replies
 pub mod Printing
 pub mod Examples
+pub mod Fits

@@ -1,6 +1,7 @@
 use mathlib.Core.Path.{sym}
 use lib.Seq.{length-take-le}
 use borrow.Author.Needs.{needs}
+use Rattle.program.proofs.Fits.{printed-within}
 use Rattle.program.proofs.run_input.Statement.{statement}
 use Rattle.program.proofs.run_input.Tie as tie
 
@@ -22,17 +23,11 @@ slice-aggregate-print-2 c = search needs
 print-requires : tie.Need-print-requires
 print-requires c κs = search needs
 
-slice-aggregate-within : tie.Need-slice-aggregate-within
-slice-aggregate-within c = search needs
-
-within-requires : tie.Need-within-requires
-within-requires c κs = search needs
-
 array-share-prefix-out : tie.Need-array-share-prefix-out
-array-share-prefix-out c = search needs
+array-share-prefix-out c = printed-within _ (search needs) (c .before .print .ensures)
 
 slice-aggregate-write-all : tie.Need-slice-aggregate-write-all
-slice-aggregate-write-all c = sym (length-take-le (c .before .within .result) (c .before .before .before .before .print .last .1 .0) (c .before .within .ensures))
+slice-aggregate-write-all c = sym (length-take-le (c .before .before .print .result) (c .before .before .print .last .1 .0) (array-share-prefix-out (c .before)))
 
 write-all-requires : tie.Need-write-all-requires
 write-all-requires c κs = search needs
@@ -50,8 +45,6 @@ run-input-spec =
     slice-aggregate-print
     slice-aggregate-print-2
     print-requires
-    slice-aggregate-within
-    within-requires
     array-share-prefix-out
     slice-aggregate-write-all
     write-all-requires

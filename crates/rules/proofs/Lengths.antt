@@ -1,17 +1,19 @@
 -- How long the lines of the listing can be: a number has at most ten digits, so the lengths of the lists in a text bound it.
 -- Assumes nothing.
+use mathlib.Core.Path.{ap}
 use mathlib.Core.Bool.{Bool, true, false}
 use mathlib.Core.List.{List, [], _∷_, _++_, map}
 use mathlib.Core.Option.{Option, none, some}
 use Prim.Native.Nat.{ℕ, zero, suc, _+_, _*_, _/_, _%_, _≤_}
 use native.Mathlib.Omega.{arith}
+use borrow.Author.Tests.{lt-ltb}
 use lib.Dec.{eqb, ltb}
 use lib.ListN.{length, length-append}
 use Rattle.rules.specs.Table.{Table, keys, weigh, find, sum-over}
 use Rattle.edit.specs.Record.{operand, successor, Definition, of-value, of-block}
 use Rattle.edit.specs.Answer.{Reply}
 use Rattle.rules.specs.History.{Operation, Block, uses-in, uses-of}
-use Rattle.rules.specs.State.{State}
+use Rattle.rules.specs.State.{State, number-at}
 use Rattle.rules.specs.Orders.{list-at}
 use Rattle.rules.specs.Step.{definition-number}
 use Rattle.rules.specs.Listing.{text, digits, num, nums, or-none, pairs, line-end, edit-line, edit-lines, store-line, op-lines, block-lines, region-lines, value-lines}
@@ -45,6 +47,11 @@ digits-short (suc k) n acc = go (ltb n 10) (digits-short k (n / 10) ((48 + n % 1
 num-short : (n : ℕ) → AtMost 11 (num n)
 unfolding num
 num-short n = record { long = omega (arith, digits-short 10 n []) }
+
+-- a number of one digit
+digit-short : (n : ℕ) → n ≤ 9 → AtMost 2 (num n)
+unfolding num digits
+digit-short n h = record { long = omega (arith, ap (λ (b : Bool). length {A = ℕ} (elim b [ true ↦ (48 + n) ∷ [] | false ↦ digits 9 (n / 10) ((48 + n % 10) ∷ []) ])) (lt-ltb n 10 (omega (arith, h)))) }
 
 nums-short : (ns : List ℕ) → AtMost (11 * length ns) (nums ns)
 unfolding nums
@@ -90,14 +97,14 @@ module _ (s : State) where
   unfolding store-line
   store-short = as-is (text "store") ⊕ num-short _ ⊕ num-short _ ⊕ num-short _ ⊕ num-short _ ⊕ num-short _ ⊕ end-short
 
-  pub ops-short : (t : Table Operation)
-      → AtMost (64 * length t + 11 * in-all (λ (o : Operation). o .results) t + 22 * in-all (uses-in operand) t + 22 * in-all (uses-in successor) t + 11 * in-all (λ (o : Operation). o .regions) t) (op-lines s t)
+  pub ops-short : ((n : ℕ) → number-at (s .flags) n ≤ 9) → (t : Table Operation)
+      → AtMost (55 * length t + 11 * in-all (λ (o : Operation). o .results) t + 22 * in-all (uses-in operand) t + 22 * in-all (uses-in successor) t + 11 * in-all (λ (o : Operation). o .regions) t) (op-lines s t)
   unfolding op-lines uses-in
-  ops-short [] = as-is []
-  ops-short (e ∷ t) =
+  ops-short low [] = as-is []
+  ops-short low (e ∷ t) =
       within _
-      (as-is (text "op") ⊕ num-short _ ⊕ as-is (text " block") ⊕ or-none-short _ ⊕ as-is (text " flags") ⊕ num-short _ ⊕ as-is (text " res") ⊕ nums-short _
-      ⊕ as-is (text " opd") ⊕ pairs-short _ _ ⊕ as-is (text " suc") ⊕ pairs-short _ _ ⊕ as-is (text " reg") ⊕ nums-short _ ⊕ end-short ⊕ ops-short t)
+      (as-is (text "op") ⊕ num-short _ ⊕ as-is (text " block") ⊕ or-none-short _ ⊕ as-is (text " flags") ⊕ digit-short _ (low (e .0)) ⊕ as-is (text " res") ⊕ nums-short _
+      ⊕ as-is (text " opd") ⊕ pairs-short _ _ ⊕ as-is (text " suc") ⊕ pairs-short _ _ ⊕ as-is (text " reg") ⊕ nums-short _ ⊕ end-short ⊕ ops-short low t)
       (omega arith)
 
   pub blocks-short : (t : Table Block)

@@ -2,42 +2,57 @@
 -- stands in few of the lists that the listing shows, so that the capacities bound it. Assumes nothing.
 use mathlib.Core.Path.{_≡_, refl, ap}
 use mathlib.Core.Bool.{Bool, true, false, cond}
-use mathlib.Core.List.{List, [], _∷_, map}
+use mathlib.Core.List.{List, [], _∷_, _++_, map}
 use mathlib.Core.Option.{Option, none, some}
-use Prim.Native.Nat.{ℕ, zero, suc, _+_, _*_, _≤_}
+use Prim.Native.Nat.{ℕ, zero, suc, _+_, _*_, _≤_, _<_}
 use native.Mathlib.Omega.{arith}
 use borrow.Author.Tests.{ne-eqb}
 use lib.Dec.{eqb, ltb}
 use lib.ListN.{length, length-append}
 use Rattle.rules.specs.Table.{Table, Rising, spread, find, items, keys, concat, sum-over, some-and, one, count}
-use Rattle.edit.specs.Record.{operand, successor, operation, block, of-value, of-block, Cut, nothing, broken, whole, cut, read}
+use Rattle.edit.specs.Record.{operand, successor, operation, block, Definition, of-value, of-block, Cut, nothing, broken, whole, cut, read}
+use Rattle.edit.specs.Answer.{Reply}
 use Rattle.rules.specs.History.{Operation, Block, History, Five, uses-in, uses-of, block-of, region-of, block-at, region-at, container}
 use Rattle.rules.specs.Orders.{lists, list-at, or-empty}
-use Rattle.rules.specs.State.{State, start, accept}
+use Rattle.rules.specs.State.{State, start, or-zero, number-at, accept}
 use Rattle.rules.specs.Step.{obey}
 use Rattle.rules.specs.Script.{Ran, ended-with, after-reply, turn, run-by, run}
 use Rattle.rules.specs.Calls.{Call, script, left-by, after}
 use Rattle.rules.specs.Sound.{region-places, value-places, use-places, Sound}
-use Rattle.rules.specs.Listing.{text, listing, program-capacities, printed, output}
+use Rattle.rules.specs.Listing.{text, edit-lines, listing, program-capacities, printed, output}
 use Rattle.rules.proofs.Closure.{after-told}
 use Rattle.rules.proofs.Places.{count-append, eqb-comm, length-keys}
 use Rattle.rules.proofs.Inside.{found-key, rising-once}
 use Rattle.rules.proofs.Laws.{none-some, eqb-same}
-use Rattle.rules.proofs.Sums.{count-lists, sum-most, values-once, blocks-once}
+use Rattle.rules.proofs.Sums.{count-lists, sum-most, each-once, sum-append}
 use Rattle.rules.proofs.Acyclic.{sub-length}
 use Rattle.rules.proofs.Soundness.{every-call-sound}
-use Rattle.rules.proofs.Lengths.{AtMost, _⊕_, in-all, edit-lines-short, store-short, ops-short, blocks-short, regions-short, values-short}
+use Rattle.rules.proofs.Lengths.{_⊕_, in-all, edit-lines-short, store-short, ops-short, blocks-short, regions-short, values-short}
 
 -- ---- lists in which a number stands no more often than in a table are together no longer than the table
 
 module _ {A : Type 0} (g : A → List ℕ) where
-  length-lists : (t : Table A) → length (concat (map g (items t))) ≡ in-all g t
+  abbrev shown : Table A → List ℕ
+  shown t = concat (map g (items t))
+
+  length-lists : (t : Table A) → length (shown t) ≡ in-all g t
   unfolding concat items
   length-lists [] = refl
-  length-lists (e ∷ t) = omega (arith, length-append (g (e .1)) (concat (map g (items t))), length-lists t)
+  length-lists (e ∷ t) = omega (arith, length-append (g (e .1)) (shown t), length-lists t)
 
-  lists-fit : {B : Type 0} (t : Table A) (u : Table B) → ((n : ℕ) → spread g n t ≤ count n (keys u)) → in-all g t ≤ length u
-  lists-fit t u k = omega (arith, length-lists t, sub-length (concat (map g (items t))) (keys u) (λ n. omega (arith, count-lists g n t, k n)), length-keys u)
+lists-fit : {A B : Type 0} (g : A → List ℕ) (t : Table A) (u : Table B) → ((n : ℕ) → spread g n t ≤ count n (keys u)) → in-all g t ≤ length u
+lists-fit g t u k = omega (arith, length-lists g t, sub-length (shown g t) (keys u) (λ n. omega (arith, count-lists g n t, k n)), length-keys u)
+
+both-fit : {A B C : Type 0} (f : A → List ℕ) (s : Table A) (g : B → List ℕ) (t : Table B) (u : Table C) → ((n : ℕ) → spread f n s + spread g n t ≤ count n (keys u)) → in-all f s + in-all g t ≤ length u
+both-fit f s g t u k =
+    omega (
+      arith,
+      length-lists f s,
+      length-lists g t,
+      length-append (shown f s) (shown g t),
+      sub-length (shown f s ++ shown g t) (keys u) (λ n. omega (arith, count-append n (shown f s) (shown g t), count-lists f n s, count-lists g n t, k n)),
+      length-keys u,
+    )
 
 -- ---- so are the lists of different containers, where each number stands in the list of its home, and is in the table if it has one
 
@@ -122,35 +137,48 @@ module _ (s : State) (w : Sound s) where
         members-fit (list-at t) (container block h) (w .links block) (keys t) (h .blocks) (λ c. rising-once 0 _ c t (w .blocks-of-rise)) (in-region h),
       )
 
-  block-uses : sum-over (λ d. length (uses-of h d)) (map of-block (keys (h .blocks))) ≤ length (h .uses)
+  uses-shown : sum-over (λ d. length (uses-of h d)) (map of-value (keys (s .types))) + sum-over (λ d. length (uses-of h d)) (map of-block (keys (h .blocks))) ≤ length (h .uses)
   unfolding uses-of
-  block-uses = sum-most (map of-block (keys (h .blocks))) (blocks-once (keys (h .blocks)) (λ c. rising-once 0 _ c (h .blocks) (w .blocks-rise))) (h .uses)
+  uses-shown =
+      let vs : List Definition = map of-value (keys (s .types)) in
+      let bs : List Definition = map of-block (keys (h .blocks)) in
+      omega (
+        arith,
+        sum-append (λ d. length (uses-of h d)) vs bs,
+        sum-most (vs ++ bs) (each-once (keys (s .types)) (keys (h .blocks)) (λ v. rising-once 0 _ v (s .types) (w .types-rise)) (λ b. rising-once 0 _ b (h .blocks) (w .blocks-rise))) (h .uses),
+      )
 
-  value-uses : sum-over (λ d. length (uses-of h d)) (map of-value (keys (s .types))) ≤ length (h .uses)
-  unfolding uses-of
-  value-uses = sum-most (map of-value (keys (s .types))) (values-once (keys (s .types)) (λ v. rising-once 0 _ v (s .types) (w .types-rise))) (h .uses)
+  low : (n : ℕ) → number-at (s .flags) n ≤ 9
+  unfolding number-at or-zero
+  low n = go (find (s .flags) n) refl
+    where
+      go : (o : Option ℕ) → find (s .flags) n ≡ o → or-zero o ≤ 9
+      go none e = omega arith
+      go (some f) e = omega (arith, w .flags-low n f e)
 
-  pub listing-fits : length (listing s) ≤ 61 + 75 * s .capacities .operations + 59 * s .capacities .blocks + 50 * s .capacities .regions + 60 * s .capacities .values + 66 * s .capacities .uses
+  listing-fits : length (listing s) ≤ 61 + 66 * s .capacities .operations + 59 * s .capacities .blocks + 50 * s .capacities .regions + 49 * s .capacities .values + 33 * s .capacities .uses
   unfolding listing region-places value-places use-places
   listing-fits =
       omega (
         arith,
-        (store-short s ⊕ ops-short s (h .operations) ⊕ blocks-short s (h .blocks) ⊕ regions-short s (s .orders .blocks-of) ⊕ values-short s (s .types)) .long,
+        (store-short s ⊕ ops-short s low (h .operations) ⊕ blocks-short s (h .blocks) ⊕ regions-short s (s .orders .blocks-of) ⊕ values-short s (s .types)) .long,
         w .operations-fit,
         w .blocks-fit,
         w .regions-fit,
         w .values-fit,
         w .uses-fit,
-        lists-fit (λ (o : Operation). o .results) (h .operations) (s .types) (λ v. omega (arith, w .values-stand v)),
-        lists-fit (λ (b : Block). b .arguments) (h .blocks) (s .types) (λ v. omega (arith, w .values-stand v)),
-        lists-fit (uses-in operand) (h .operations) (h .uses) (λ u. omega (arith, w .uses-stand u)),
-        lists-fit (uses-in successor) (h .operations) (h .uses) (λ u. omega (arith, w .uses-stand u)),
+        both-fit (λ (o : Operation). o .results) (h .operations) (λ (b : Block). b .arguments) (h .blocks) (s .types) (λ v. omega (arith, w .values-stand v)),
+        both-fit (uses-in operand) (h .operations) (uses-in successor) (h .operations) (h .uses) (λ u. omega (arith, w .uses-stand u)),
         lists-fit (λ (o : Operation). o .regions) (h .operations) (s .orders .blocks-of) (λ r. omega (arith, w .regions-stand r)),
         ops-listed,
         blocks-listed,
-        block-uses,
-        value-uses,
+        uses-shown,
       )
+
+  -- the bound that docs/EMBEDDING.md has for the answers and the listing: there are always fewer bytes
+  pub lines-fit : (n : ℕ) (rs : List Reply)
+      → length (edit-lines n rs ++ listing s) < 62 + 41 * length rs + 67 * s .capacities .operations + 59 * s .capacities .blocks + 50 * s .capacities .regions + 49 * s .capacities .values + 33 * s .capacities .uses
+  lines-fit n rs = omega (arith, length-append (edit-lines n rs) (listing s), edit-lines-short n rs .long, listing-fits)
 
 -- ---- a script
 
@@ -172,34 +200,21 @@ capacities-stay : (k : Five) (cs : List Call) → after (start k) cs .capacities
 unfolding start
 capacities-stay k cs = after-told (λ s _. s .capacities ≡ k) (λ e s _ f z w. unfold accept in w) cs (start k) [] refl
 
-module _ (bytes : List ℕ) where
-  abbrev ran : Ran
-  ran = run 4096 (start program-capacities) bytes
-
-  listed-fits : AtMost 65789 (listing (ran .state))
-  unfolding after left-by program-capacities
-  listed-fits =
-      let c : ran .state .capacities ≡ program-capacities = capacities-stay program-capacities (script 4096 bytes ∷ []) in
-      record {
-        long = omega (
-          arith,
-          listing-fits (ran .state) (every-call-sound program-capacities (script 4096 bytes ∷ [])),
-          ap (λ (k : Five). k .operations) c,
-          ap (λ (k : Five). k .blocks) c,
-          ap (λ (k : Five). k .regions) c,
-          ap (λ (k : Five). k .values) c,
-          ap (λ (k : Five). k .uses) c,
-        );
-      }
-
-  printed-fits : length (printed bytes) ≤ 262144
-  unfolding printed run
-  printed-fits =
-      omega (
-        arith,
-        (edit-lines-short 0 (ran .answers) ⊕ listed-fits) .long,
-        answers-fit (suc (length bytes)) 4096 (start program-capacities) bytes,
-      )
+printed-fits : (bytes : List ℕ) → length (printed bytes) ≤ 262144
+unfolding printed run after left-by program-capacities
+printed-fits bytes =
+    let ran : Ran = run 4096 (start program-capacities) bytes in
+    let c : ran .state .capacities ≡ program-capacities = capacities-stay program-capacities (script 4096 bytes ∷ []) in
+    omega (
+      arith,
+      lines-fit (ran .state) (every-call-sound program-capacities (script 4096 bytes ∷ [])) 0 (ran .answers),
+      answers-fit (suc (length bytes)) 4096 (start program-capacities) bytes,
+      ap (λ (k : Five). k .operations) c,
+      ap (λ (k : Five). k .blocks) c,
+      ap (λ (k : Five). k .regions) c,
+      ap (λ (k : Five). k .values) c,
+      ap (λ (k : Five). k .uses) c,
+    )
 
 -- the theorem
 pub output-fits : (bytes : List ℕ) → length (output bytes) ≤ 262144

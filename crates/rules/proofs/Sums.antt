@@ -126,13 +126,14 @@ pub sum-most : (ds : List Definition) → ((d : Definition) → tally d ds ≤ 1
 sum-most ds k [] = omega (arith, sum-none ds)
 sum-most ds k (e ∷ t) = omega (arith, sum-one (e .0) (e .1) t ds, sum-most ds k t, k (e .1))
 
-pub values-once : (xs : List ℕ) → ((v : ℕ) → count v xs ≤ 1) → (d : Definition) → tally d (map of-value xs) ≤ 1
-values-once xs k (of-value v) = omega (arith, tally-values v xs, k v)
-values-once xs k (of-block b) = omega (arith, no-values b xs)
+pub each-once : (xs ys : List ℕ) → ((n : ℕ) → count n xs ≤ 1) → ((n : ℕ) → count n ys ≤ 1) → (d : Definition) → tally d (map of-value xs ++ map of-block ys) ≤ 1
+each-once xs ys k l (of-value v) = omega (arith, tally-append (of-value v) (map of-value xs) (map of-block ys), tally-values v xs, no-blocks v ys, k v)
+each-once xs ys k l (of-block b) = omega (arith, tally-append (of-block b) (map of-value xs) (map of-block ys), no-values b xs, tally-blocks b ys, l b)
 
-pub blocks-once : (xs : List ℕ) → ((b : ℕ) → count b xs ≤ 1) → (d : Definition) → tally d (map of-block xs) ≤ 1
-blocks-once xs k (of-value v) = omega (arith, no-blocks v xs)
-blocks-once xs k (of-block b) = omega (arith, tally-blocks b xs, k b)
+pub sum-append : {A : Type 0} (f : A → ℕ) (xs ys : List A) → sum-over f (xs ++ ys) ≡ sum-over f xs + sum-over f ys
+unfolding sum-over
+sum-append f [] ys = omega arith
+sum-append f (x ∷ xs) ys = omega (arith, sum-append f xs ys)
 
 pub sum-uses : (h : History) → Held h → ((d : Definition) → tally d (all-definitions h) ≡ one (live-definition h d)) → sum-over (λ d. length (uses-of h d)) (all-definitions h) ≡ length (h .uses)
 unfolding uses-of

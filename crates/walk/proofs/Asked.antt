@@ -4,7 +4,7 @@ use mathlib.Core.Bool.{Bool, cond}
 use mathlib.Core.List.{List, [], _∷_}
 use native.Mathlib.Decide.{ℕ-discrete}
 use native.Mathlib.Omega.{arith}
-use Prim.Native.Nat.{ℕ, suc, _+_, _≤_}
+use Prim.Native.Nat.{ℕ, suc, _≤_}
 use lib.Dec.{eqb}
 use lib.ListN.{length}
 use Rattle.places.specs.Store.{Kind, op, blk, reg, val, usg, Thing, State, Live, Sound}
@@ -33,9 +33,8 @@ use Rattle.context.specs.declared.Layout.{Layout}
 use Rattle.context.specs.Memory.{part, stateOf, SoundStore, Finds}
 use Rattle.context.specs.Performed.{abs, Performed}
 use Rattle.context.specs.Layout.{kindOf}
-use Rattle.walk.specs.declared.Walked.{Walked}
 use Rattle.walk.specs.declared.Tally.{Tally}
-use Rattle.walk.specs.Drop.{CanDrop, Dropped, zeros, CanTally, Tallied}
+use Rattle.walk.specs.Drop.{walked, CanDrop, Dropped, zeros, Tallied}
 use Rattle.bits.specs.declared.Found.{Found}
 use Rattle.bits.specs.declared.Found.the-variants.{At, Nothing}
 use Rattle.context.specs.Reading.{LiveIs}
@@ -115,12 +114,16 @@ dead-at P k n a F e = subst (λ (b : Found). Finds P k n b) e F
 pub live-at : (P : State) (k : Kind) (n p : ℕ) (a : Found) → Finds P k n a → a ≡ At p → Live P (k, p) × (num P (k, p) ≡ n)
 live-at P k n p a F e = subst (λ (b : Found). Finds P k n b) e F
 
+-- a walk that began with a tally of zeros
+pub tallied : {l : Layout} {x : Thing} {m m′ : List ℕ} {n r : ℕ} {t : Tally} → Dropped l x (walked n zeros) m m′ (walked r t) → Tallied l x m m′ t
+tallied D = record { store = D .store; rest = D .rest; state = D .state; freed = omega (arith, D .numbers .freed); ended = omega (arith, D .numbers .ended) }
+
 module _ {l : Layout} {m : List ℕ} (S : SoundStore l m) where
   abbrev P : State
   P = stateOf l m
 
   -- a walk may begin with all live operations to reach
-  pub starts : (x : Thing) (n : ℕ) → LiveIs l op m n → Live P x → CanDrop l x (record { left = n; freed = 0; ended = 0 }) m
+  pub starts : (x : Thing) (n : ℕ) → LiveIs l op m n → Live P x → CanDrop l x (walked n zeros) m
   starts x n N v =
       record {
         store = S;
@@ -129,14 +132,6 @@ module _ {l : Layout} {m : List ℕ} (S : SoundStore l m) where
         few = omega (arith, N .small, S .well .caps .ops);
         uses = omega (arith, N .small, S .well .caps .ops);
       }
-
-  -- a tally of zeros has room
-  pub may-tally : (k p : ℕ) → k ≤ 2 → Live P (kindOf k, p) → CanTally l k p zeros m
-  may-tally k p h v = record { kind = h; store = S; live = v; freed = omega arith; ended = omega arith }
-
-  -- what the walk counted from nothing raises the tally
-  pub tallied : {m′ : List ℕ} {w r : Walked} (x : Thing) (t : Tally) → w .freed ≡ 0 → w .ended ≡ 0 → Dropped l x w m m′ r → Tallied l x t m m′ (record { freed = t .freed + r .freed; ended = t .ended + r .ended })
-  tallied x t f e D = record { store = D .store; rest = D .rest; state = D .state; freed = omega (arith, D .numbers .freed, f); ended = omega (arith, D .numbers .ended, e) }
 
   -- a live name is not refused for itself
   pub passes : (e : Edit) (x : Thing) (n : ℕ) → kindCode (x .0) ≤ 2 → Live P x → num P x ≡ n → named e ≡ R.thing-named (thing-named (x .0) n) ∷ [] → refusal-of (abs l m) e ≡ from-state (abs l m) e
@@ -163,10 +158,10 @@ module _ {l : Layout} {m : List ℕ} (S : SoundStore l m) where
 
   -- 36 to 38: the thing that the look-up found is dropped
   module _ (n p : ℕ) {a : Found} where
-    pub may-drop : (k : ℕ) → k ≤ 2 → Finds P (kindOf k) n a → a ≡ At p → CanTally l k p zeros m
-    may-drop k h F e = may-tally k p h (live-at P (kindOf k) n p a F e .0)
+    pub may-drop : (k : ℕ) → k ≤ 2 → Finds P (kindOf k) n a → a ≡ At p → (k ≤ 2) × (SoundStore l m × Live P (kindOf k, p))
+    may-drop k h F e = (h, (S, live-at P (kindOf k) n p a F e .0))
 
-    pub did-drop : {m′ : List ℕ} {r : Tally} (k : Kind) → kindCode k ≤ 2 → Finds P k n a → a ≡ At p → Tallied l (k, p) zeros m m′ r → Performed l (drop-uses (thing-named k n)) m m′ (Accepted 0 (r .ended))
+    pub did-drop : {m′ : List ℕ} {r : Tally} (k : Kind) → kindCode k ≤ 2 → Finds P k n a → a ≡ At p → Tallied l (k, p) m m′ r → Performed l (drop-uses (thing-named k n)) m m′ (Accepted 0 (r .ended))
     unfolding abs numbers-of from-state named
     did-drop {m′} {r} k h F e D =
         subst (λ (i : ℕ). Performed l (drop-uses (thing-named k i)) m m′ (Accepted 0 (r .ended))) (live-at P k n p a F e .1)
@@ -177,4 +172,4 @@ module _ {l : Layout} {m : List ℕ} (S : SoundStore l m) where
         (ap (λ (Q : State). answer (drop-uses (theThing P (k, p))) (meaning P) (meaning Q .history)) (D .state) ∙ drop-reply (S .sound) (k, p) (live-at P k n p a F e .0) h ∙ ap (found 0) counted))
       where
         counted : length (dropList P (k, p)) ≡ r .ended
-        counted = omega (arith, D .ended)
+        counted = sym (D .ended)

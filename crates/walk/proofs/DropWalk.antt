@@ -18,8 +18,7 @@ use Rattle.context.specs.Layout.{capOf, ncOf, nnOf}
 use Rattle.context.specs.Memory.{part, con, stateOf, Well, SoundStore, headCode, FirstIs}
 use Rattle.context.specs.Reading.{listOf, NextIs}
 use Rattle.context.proofs.Places.{place<}
-use Rattle.walk.specs.declared.Walked.{Walked}
-use Rattle.walk.specs.Drop.{operations, CanDrop, Counted, OwnDropped, Dropped}
+use Rattle.walk.specs.Drop.{Walked, operations, CanDrop, Counted, OwnDropped, Dropped}
 use Rattle.context.proofs.Cursor.{from, from-code, Single, single, kid-live}
 use Rattle.walk.proofs.Nested.{operations-eq}
 use Rattle.walk.proofs.DropLaws.{Going, reached, endedIn, Next, begins, next, reads, same-ops, enough, goes-on, more-reached, more-ended, ends, all-reached, all-ended, region-own, block-own, own-none, own-rest, own-ops, own-ended, after-kids}

@@ -39,7 +39,7 @@ use Rattle.context.specs.Memory.{stateOf, SoundStore, LengthIs}
 use Rattle.context.specs.Reading.{NthIs}
 use Rattle.context.specs.Performed.{abs, Performed}
 use Rattle.walk.specs.declared.Tally.{Tally}
-use Rattle.walk.specs.Drop.{operations, zeros, Tallied}
+use Rattle.walk.specs.Drop.{Tallied}
 use Rattle.walk.specs.Tests.{within, eraseCode, Tested, Testable}
 use Rattle.walk.specs.Erase.{CanErase, Erased, EraseDone, EraseAnswer}
 use Rattle.walk.proofs.Nested.{operations-are}
@@ -209,7 +209,7 @@ module _ {l : Layout} {m s s′ : List ℕ} (k p : ℕ) {n r : ℕ} (C : Testabl
   none-out : straysIn A (T .marks) y ≡ 0
   none-out = no-strays (sum (strays A (T .marks)) (within A n y)) (straysIn A (T .marks) y) (sym (T .code) ∙ z)
 
-  pub can-erase : {t : Tally} {m′ : List ℕ} → Tallied l y zeros m m′ t → CanErase l y m′
+  pub can-erase : {t : Tally} {m′ : List ℕ} → Tallied l y m m′ t → CanErase l y m′
   can-erase D =
       record {
         store = D .store;
@@ -217,7 +217,7 @@ module _ {l : Layout} {m s s′ : List ℕ} (k p : ℕ) {n r : ℕ} (C : Testabl
         unused = from-free (subst (λ (Q : State). Free Q y) (sym (D .state)) (drop-free (C .store .sound) y (T .marks) (T .right) none-out));
       }
 
-  pub done-answer : {t : Tally} {m₁ m₂ : List ℕ} → Tallied l y zeros m m₁ t → Erased l y m₁ m₂ → EraseAnswer l y n m m₂ (Accepted (t .freed) (t .ended))
+  pub done-answer : {t : Tally} {m₁ m₂ : List ℕ} → Tallied l y m m₁ t → Erased l y m₁ m₂ → EraseAnswer l y n m m₂ (Accepted (t .freed) (t .ended))
   done-answer {t} {m₁} D E =
       record {
         marks = T .marks;
@@ -227,6 +227,6 @@ module _ {l : Layout} {m s s′ : List ℕ} (k p : ℕ) {n r : ℕ} (C : Testabl
           store = E .store;
           rest = E .rest ∙ D .rest;
           state = E .state ∙ ap (λ (Q : State). cutAll (innards Q y) Q) (D .state) ∙ ap (λ (t : List Thing). cutAll t (dropped A y)) (innards-dropped (C .store .sound) y);
-          reply = let a : t .freed ≡ operations A y = omega (arith, D .freed) in let b : t .ended ≡ length (dropList A y) = omega (arith, D .ended) in ap₂ Accepted a b;
+          reply = ap₂ Accepted (D .freed) (D .ended);
         };
       }

@@ -15,8 +15,7 @@ use Rattle.context.specs.Layout.{kindOf, famOf, ncOf}
 use Rattle.context.specs.Memory.{part, stateOf, SoundStore, headCode, FirstIs}
 use Rattle.context.specs.Steps.{CanEnd, Ended}
 use Rattle.context.proofs.Places.{place<}
-use Rattle.walk.specs.declared.Walked.{Walked}
-use Rattle.walk.specs.Drop.{CanDrop, Dropped}
+use Rattle.walk.specs.Drop.{Walked, CanDrop, Dropped}
 use Rattle.walk.specs.Erase.{CanErase, Erased, OwnEnded, innerCode}
 use Rattle.walk.proofs.DropWalk.{Nests, in-op, in-region, in-block, first-code, kid-is, kid-lives}
 use Rattle.walk.proofs.EraseLaws.{Erasing, begins, reads, still-free, shrinks, goes-on, empty, ends, left-kids, still-live, own-none, own-measure, own-rest, own-free, own-live, to-free, from-free}

@@ -8,7 +8,7 @@ use native.Mathlib.Omega.{arith}
 use Prim.Native.Nat.{ℕ, _+_, _-_, _*_, _/_, _%_, _<_, _≤_}
 use lib.ListN.{length}
 use Rattle.seqs.specs.Seqs.{In}
-use Rattle.places.specs.Store.{Kind-dec, op, operands, successors, Limited, slots, Thing, Thing-dec, Con, State, outer}
+use Rattle.places.specs.Store.{Kind-dec, op, operands, successors, Limited, slots, Thing, Thing-dec, Con, State, Live, outer}
 use Rattle.places.specs.Parts.{rowsOf}
 use Rattle.places.specs.Walk.{cutBy, cutAll, among, usesAt}
 use Rattle.seqs.proofs.Base.{tick-yes, tick-no, count-append}
@@ -18,11 +18,11 @@ use Rattle.places.proofs.DropAll.{uses-at}
 use Rattle.places.proofs.DropTurn.{length-append}
 use Rattle.context.specs.declared.Layout.{Layout}
 use Rattle.context.specs.Layout.{ncOf}
-use Rattle.context.specs.Memory.{con, stateOf}
+use Rattle.context.specs.Memory.{con, stateOf, SoundStore}
 use Rattle.context.specs.Steps.{DroppedAll}
 use Rattle.context.proofs.Places.{place<}
-use Rattle.walk.specs.declared.Walked.{Walked}
-use Rattle.walk.specs.Drop.{CanDrop, OwnDropped}
+use Rattle.walk.specs.declared.Tally.{Tally}
+use Rattle.walk.specs.Drop.{Walked, walked, CanDrop, OwnDropped, CanOwn, OwnTallied}
 use Rattle.walk.proofs.Nested.{operations-eq}
 
 pub con-operands : (l : Layout) (o : ℕ) → con l slots (2 * o) ≡ (operands, (op, o))
@@ -37,12 +37,12 @@ con-successors l o =
     let q : (2 * o + 1) / 2 ≡ o = omega arith in
     if-neg {C = Con} (ℕ-discrete ((2 * o + 1) % 2) 0) (λ e. absurd (omega (arith, e))) (operands, (op, (2 * o + 1) / 2)) (successors, (op, (2 * o + 1) / 2)) ∙ ap (λ (p : ℕ). (successors, (op, p))) q
 
-module _ {l : Layout} {w : Walked} {m : List ℕ} (o : ℕ) (C : CanDrop l (op, o) w m) where
+module _ {l : Layout} {m : List ℕ} (o : ℕ) (S : SoundStore l m) (v : Live (stateOf l m) (op, o)) where
   abbrev P : State
   P = stateOf l m
 
   pub place : o < l .ops
-  place = place< (C .store) (op, o) (C .live)
+  place = place< S (op, o) v
 
   pub first-row : 2 * o < ncOf l slots
   first-row = omega (arith, place)
@@ -50,8 +50,15 @@ module _ {l : Layout} {w : Walked} {m : List ℕ} (o : ℕ) (C : CanDrop l (op, 
   pub second-row : 2 * o + 1 < ncOf l slots
   second-row = omega (arith, place)
 
-  pub one-left : 1 ≤ w .left
-  one-left = omega (arith, C .enough, operations-eq (C .store .sound .linked) (op, o), tick-yes (Kind-dec op op) refl)
+  -- an operation has at most 64 operands and 64 successors
+  pub few-uses : length (usesAt P (op, o)) ≤ 128
+  few-uses =
+      omega (
+        arith,
+        length-append (P .list (op, o) operands) (P .list (op, o) successors),
+        S .sound .linked .short (op, o) operands Limited.of-operands,
+        S .sound .linked .short (op, o) successors Limited.of-successors,
+      )
 
   module _ {m₁ : List ℕ} {a : ℕ} (D : DroppedAll l (2 * o) m m₁ a) where
     state₁ : stateOf l m₁ ≡ cutAll (P .list (op, o) operands) P
@@ -62,7 +69,7 @@ module _ {l : Layout} {w : Walked} {m : List ℕ} (o : ℕ) (C : CanDrop l (op, 
 
     -- no use stands in both
     apart : (u : Thing) → In Thing-dec u (P .list (op, o) successors) → among (P .list (op, o) operands) u ≡ 0
-    apart u i = omega (arith, i, uses-at (C .store .sound .linked) u (op, o), count-append Thing-dec u (P .list (op, o) operands) (P .list (op, o) successors), bound (outer (P .own u slots)))
+    apart u i = omega (arith, i, uses-at (S .sound .linked) u (op, o), count-append Thing-dec u (P .list (op, o) operands) (P .list (op, o) successors), bound (outer (P .own u slots)))
       where
         bound : (q : Option Thing) → upTo q (op, o) ≤ 1
         bound none = omega arith
@@ -72,15 +79,9 @@ module _ {l : Layout} {w : Walked} {m : List ℕ} (o : ℕ) (C : CanDrop l (op, 
     unfolding cutBy
     seconds = ap (λ (Q : State). Q .list (op, o) successors) state₁ ∙ sift-all Thing-dec (among (P .list (op, o) operands)) (P .list (op, o) successors) apart
 
-    pub few-a : a ≤ 64
-    few-a = omega (arith, a-is, C .store .sound .linked .short (op, o) operands Limited.of-operands)
-
     module _ {m₂ : List ℕ} {b : ℕ} (E : DroppedAll l (2 * o + 1) m₁ m₂ b) where
       b-is : b ≡ length (P .list (op, o) successors)
       b-is = E .counted ∙ ap (λ (c : Con). length (stateOf l m₁ .list (c .1) (c .0))) (con-successors l o) ∙ ap length seconds
-
-      pub few-b : b ≤ 64
-      few-b = omega (arith, b-is, C .store .sound .linked .short (op, o) successors Limited.of-successors)
 
       state₂ : stateOf l m₂ ≡ cutAll (usesAt P (op, o)) P
       state₂ =
@@ -89,17 +90,42 @@ module _ {l : Layout} {w : Walked} {m : List ℕ} (o : ℕ) (C : CanDrop l (op, 
           ∙ ap₂ {C = State} (λ (u : List Thing) (Q : State). cutAll u Q) seconds state₁
           ∙ cut-append (P .list (op, o) operands) (P .list (op, o) successors) P
 
-      pub own-dropped : OwnDropped l (op, o) w m m₂ (record { left = w .left - 1; freed = w .freed + 1; ended = w .ended + a + b })
-      own-dropped =
+      all : a + b ≡ length (usesAt P (op, o))
+      all = omega (arith, a-is, b-is, length-append (P .list (op, o) operands) (P .list (op, o) successors))
+
+      pub few-both : a + b ≤ 128
+      few-both = omega (arith, all, few-uses)
+
+      pub own-tallied : (t : Tally) → OwnTallied l o t m m₂ (record { freed = t .freed + 1; ended = t .ended + (a + b) })
+      own-tallied t =
           record {
             store = E .sound;
             rest = E .rest ∙ D .rest;
             state = state₂;
-            numbers =
-                record {
-                  left = omega (arith, one-left);
-                  freed = omega arith;
-                  ended = omega (arith, a-is, b-is, length-append (P .list (op, o) operands) (P .list (op, o) successors));
-                  small = omega (arith, few-a, few-b, one-left);
-                };
+            freed = omega arith;
+            ended = omega (arith, all);
           }
+
+-- ---- one operation of a walk
+
+pub one-left : {l : Layout} {m : List ℕ} {w : Walked} (o : ℕ) → CanDrop l (op, o) w m → 1 ≤ w .left
+one-left o C = omega (arith, C .enough, operations-eq (C .store .sound .linked) (op, o), tick-yes (Kind-dec op op) refl)
+
+pub may-own : {l : Layout} {m : List ℕ} {t : Tally} (o left : ℕ) → CanDrop l (op, o) (walked left t) m → CanOwn l o t m
+may-own o left C = record { store = C .store; live = C .live; few = omega (arith, C .few, one-left o C); uses = omega (arith, C .uses, one-left o C) }
+
+-- one operation fewer is left
+pub own-dropped : {l : Layout} {m m′ : List ℕ} {t r : Tally} (o left : ℕ) → CanDrop l (op, o) (walked left t) m → OwnTallied l o t m m′ r → OwnDropped l (op, o) (walked left t) m m′ (walked (left - 1) r)
+own-dropped o left C O =
+    record {
+      store = O .store;
+      rest = O .rest;
+      state = O .state;
+      numbers =
+          record {
+            left = omega (arith, one-left o C);
+            freed = O .freed;
+            ended = O .ended;
+            small = omega (arith, O .ended, few-uses o (C .store) (C .live), one-left o C);
+          };
+    }

@@ -9,9 +9,17 @@ use Rattle.places.specs.Store.{Kind-dec, op, Thing, State, Live}
 use Rattle.places.specs.Walk.{cutAll, walk, usesAt, dropList, dropped}
 use Rattle.context.specs.declared.Layout.{Layout}
 use Rattle.context.specs.Memory.{part, stateOf, SoundStore}
-use Rattle.context.specs.Layout.{kindOf}
-use Rattle.walk.specs.declared.Walked.{Walked}
 use Rattle.walk.specs.declared.Tally.{Tally}
+
+-- what a walk carries along: the operations not yet reached, those reached, and the uses ended
+pub record Walked : Type 0 where
+  pub left : ℕ
+  pub freed : ℕ
+  pub ended : ℕ
+
+-- the number that is carried by value, and the tally that is lent
+abbrev pub walked : ℕ → Tally → Walked
+walked n t = record { left = n; freed = t .freed; ended = t .ended }
 
 -- the operations in a thing, itself included
 unfoldable pub operations : State → Thing → ℕ
@@ -46,23 +54,30 @@ pub record Dropped (l : Layout) (x : Thing) (w : Walked) (m m′ : List ℕ) (r 
   pub state : stateOf l m′ ≡ dropped (stateOf l m) x
   pub numbers : Counted w (operations (stateOf l m) x) (length (dropList (stateOf l m) x)) r
 
--- ---- the tally that is lent
+-- ---- the tally
 
 abbrev pub zeros : Tally
 zeros = record { freed = 0; ended = 0 }
 
--- the thing of the kind k at p can be dropped, and what the tally has leaves room for all that a store can hold
-pub record CanTally (l : Layout) (k p : ℕ) (t : Tally) (m : List ℕ) : Type 0 where
-  pub kind : k ≤ 2
+-- the operation's own uses can be dropped, and the tally has room for them
+pub record CanOwn (l : Layout) (o : ℕ) (t : Tally) (m : List ℕ) : Type 0 where
   pub store : SoundStore l m
-  pub live : Live (stateOf l m) (kindOf k, p)
-  pub freed : t .freed + 4096 < 4294967296
-  pub ended : t .ended + 600000 < 4294967296
+  pub live : Live (stateOf l m) (op, o)
+  pub few : t .freed < 4096
+  pub uses : t .ended + 128 ≤ 600000
 
--- all uses inside x ended, and the tally rose by the operations in x and by the uses ended
-pub record Tallied (l : Layout) (x : Thing) (t : Tally) (m m′ : List ℕ) (r : Tally) : Type 0 where
+-- the uses of the operation itself ended, and the tally rose by it and by them
+pub record OwnTallied (l : Layout) (o : ℕ) (t : Tally) (m m′ : List ℕ) (r : Tally) : Type 0 where
+  pub store : SoundStore l m′
+  pub rest : part l m′ 14 ≡ part l m 14
+  pub state : stateOf l m′ ≡ cutAll (usesAt (stateOf l m) (op, o)) (stateOf l m)
+  pub freed : r .freed ≡ t .freed + 1
+  pub ended : r .ended ≡ t .ended + length (usesAt (stateOf l m) (op, o))
+
+-- all uses inside x ended, and the tally says how many operations are in x and how many uses ended
+pub record Tallied (l : Layout) (x : Thing) (m m′ : List ℕ) (r : Tally) : Type 0 where
   pub store : SoundStore l m′
   pub rest : part l m′ 14 ≡ part l m 14
   pub state : stateOf l m′ ≡ dropped (stateOf l m) x
-  pub freed : r .freed ≡ t .freed + operations (stateOf l m) x
-  pub ended : r .ended ≡ t .ended + length (dropList (stateOf l m) x)
+  pub freed : r .freed ≡ operations (stateOf l m) x
+  pub ended : r .ended ≡ length (dropList (stateOf l m) x)

@@ -13,7 +13,7 @@ ghost use Rattle.edit.specs.Answer.{numbers-of};
 ghost use Rattle.context.specs.Memory.{con, stateOf, SoundStore};
 ghost use Rattle.context.specs.Performed.{Performed};
 ghost use Rattle.edit.specs.Record.{the-operation, the-block, the-region, drop-uses, erase-operation, erase-block, erase-region, verdict};
-ghost use Rattle.walk.specs.Drop.{CanDrop, OwnDropped, Dropped, zeros, CanTally, Tallied};
+ghost use Rattle.walk.specs.Drop.{walked, CanDrop, Dropped, zeros, CanOwn, OwnTallied, Tallied};
 ghost use Rattle.walk.specs.Judge.{userLeads, BlockAlone, OpJudged, BlockJudged, RegionJudged};
 ghost use Prim.Native.Nat.{_≤_, _<_};
 ghost use lib.ListN.{length};
@@ -23,129 +23,102 @@ ghost use Rattle.walk.specs.Tests.{within, alone, DepthIs, Testable, Giv
 ghost use Rattle.walk.specs.Erase.{CanErase, Erased, CanEndValues, EndedValues, OwnEnded, innerCode, EraseAnswer};
 ghost use Rattle.context.specs.Steps.{CanEnd, Ended};
 
-// What a walk carries along: the operations not yet reached, those reached, and the uses ended.
-pub struct Walked {
-    pub left: usize,
-    pub freed: usize,
-    pub ended: usize,
-}
-
-// What an edit answers with: operations freed and uses ended.
+// What a walk over the nest counts: operations freed and uses ended.
 pub struct Tally {
     pub freed: u32,
     pub ended: u32,
 }
 
-// The operation's own uses end.
-fn drop_own(m: &mut [u32], l: Layout, o: usize, w: Walked) -> Walked
-    requires { ⌜ CanDrop l (op, o) w (now m) ⌝ }
-    ensures { λ r. ⌜ OwnDropped l (op, o) w (now (m .entry)) (now (m .exit)) r ⌝ }
+// The operation's own uses end, and the tally rises by it and by them.
+fn drop_own(m: &mut [u32], l: Layout, o: usize, t: Tally) -> Tally
+    requires { ⌜ CanOwn l o t (now m) ⌝ }
+    ensures { λ r. ⌜ OwnTallied l o t (now (m .entry)) (now (m .exit)) r ⌝ }
 {
     let a = context::operation::drop_slots(m, l, 2 * o);
     let b = context::operation::drop_slots(m, l, 2 * o + 1);
-    Walked {
-        left: w.left - 1,
-        freed: w.freed + 1,
-        ended: w.ended + a + b,
+    Tally {
+        freed: t.freed + 1,
+        ended: t.ended + (a + b) as u32,
     }
 }
 
-// All uses in the operation at the place `o` end, its own included.
-pub fn drop_operation(m: &mut [u32], l: Layout, o: usize, w: Walked) -> Walked
-    requires { ⌜ CanDrop l (op, o) w (now m) ⌝ }
-    ensures { λ r. ⌜ Dropped l (op, o) w (now (m .entry)) (now (m .exit)) r ⌝ }
+// All uses in the operation at the place `o` end, its own included. `left` operations are not yet reached; the number left after is handed back.
+pub fn drop_operation(m: &mut [u32], l: Layout, o: usize, left: usize, t: &mut Tally) -> usize
+    requires { ⌜ CanDrop l (op, o) (walked left (now t)) (now m) ⌝ }
+    ensures { λ r. ⌜ Dropped l (op, o) (walked left (now (t .entry))) (now (m .entry)) (now (m .exit)) (walked r (now (t .exit))) ⌝ }
 {
-    let mut t = drop_own(m, l, o, w);
+    *t = drop_own(m, l, o, *t);
+    let mut n = left - 1;
     let mut k = context::first_of(m, l, 3, o);
     while k != 0 {
-        t = drop_region(m, l, k - 1, t);
+        n = drop_region(m, l, k - 1, n, t);
         k = context::next_of(m, l, 3, k - 1);
     }
-    t
+    n
 }
 
 // All uses in the region at the place `r` end.
-pub fn drop_region(m: &mut [u32], l: Layout, r: usize, w: Walked) -> Walked
-    requires { ⌜ CanDrop l (reg, r) w (now m) ⌝ }
-    ensures { λ t. ⌜ Dropped l (reg, r) w (now (m .entry)) (now (m .exit)) t ⌝ }
+pub fn drop_region(m: &mut [u32], l: Layout, r: usize, left: usize, t: &mut Tally) -> usize
+    requires { ⌜ CanDrop l (reg, r) (walked left (now t)) (now m) ⌝ }
+    ensures { λ n. ⌜ Dropped l (reg, r) (walked left (now (t .entry))) (now (m .entry)) (now (m .exit)) (walked n (now (t .exit))) ⌝ }
 {
-    let mut t = w;
+    let mut n = left;
     let mut k = context::first_of(m, l, 5, r);
     while k != 0 {
-        t = drop_block(m, l, k - 1, t);
+        n = drop_block(m, l, k - 1, n, t);
         k = context::next_of(m, l, 5, k - 1);
     }
-    t
+    n
 }
 
 // All uses in the block at the place `b` end.
-pub fn drop_block(m: &mut [u32], l: Layout, b: usize, w: Walked) -> Walked
-    requires { ⌜ CanDrop l (blk, b) w (now m) ⌝ }
-    ensures { λ t. ⌜ Dropped l (blk, b) w (now (m .entry)) (now (m .exit)) t ⌝ }
+pub fn drop_block(m: &mut [u32], l: Layout, b: usize, left: usize, t: &mut Tally) -> usize
+    requires { ⌜ CanDrop l (blk, b) (walked left (now t)) (now m) ⌝ }
+    ensures { λ n. ⌜ Dropped l (blk, b) (walked left (now (t .entry))) (now (m .entry)) (now (m .exit)) (walked n (now (t .exit))) ⌝ }
 {
-    let mut t = w;
+    let mut n = left;
     let mut k = context::first_of(m, l, 4, b);
     while k != 0 {
-        t = drop_operation(m, l, k - 1, t);
+        n = drop_operation(m, l, k - 1, n, t);
         k = context::next_of(m, l, 4, k - 1);
     }
-    t
+    n
 }
 
 // All uses in the thing of the kind `k` at `p` end.
-fn drop_inside(m: &mut [u32], l: Layout, k: usize, p: usize, w: Walked) -> Walked
+fn drop_inside(m: &mut [u32], l: Layout, k: usize, p: usize, left: usize, t: &mut Tally) -> usize
     requires { ⌜ k ≤ 2 ⌝ }
-    requires { ⌜ CanDrop l (kindOf k, p) w (now m) ⌝ }
-    ensures { λ r. ⌜ Dropped l (kindOf k, p) w (now (m .entry)) (now (m .exit)) r ⌝ }
+    requires { ⌜ CanDrop l (kindOf k, p) (walked left (now t)) (now m) ⌝ }
+    ensures { λ r. ⌜ Dropped l (kindOf k, p) (walked left (now (t .entry))) (now (m .entry)) (now (m .exit)) (walked r (now (t .exit))) ⌝ }
 {
     if k == 0 {
-        return drop_operation(m, l, p, w);
+        return drop_operation(m, l, p, left, t);
     }
     if k == 1 {
-        return drop_block(m, l, p, w);
+        return drop_block(m, l, p, left, t);
     }
-    drop_region(m, l, p, w)
+    drop_region(m, l, p, left, t)
 }
 
-// The same, and the tally is raised by what the walk counted.
-fn drop_raised(m: &mut [u32], l: Layout, k: usize, p: usize, t: Tally) -> Tally
-    requires { ⌜ CanTally l k p t (now m) ⌝ }
-    ensures { λ r. ⌜ Tallied l (kindOf k, p) t (now (m .entry)) (now (m .exit)) r ⌝ }
-{
-    let n = context::live_count(m, l, 0);
-    let w = drop_inside(
-        m,
-        l,
-        k,
-        p,
-        Walked {
-            left: n,
-            freed: 0,
-            ended: 0,
-        },
-    );
-    Tally {
-        freed: t.freed + w.freed as u32,
-        ended: t.ended + w.ended as u32,
-    }
-}
-
-// The same with the tally lent.
-fn drop_counted(m: &mut [u32], l: Layout, k: usize, p: usize, t: &mut Tally)
-    requires { ⌜ CanTally l k p (now t) (now m) ⌝ }
-    ensures { λ _. ⌜ Tallied l (kindOf k, p) (now (t .entry)) (now (m .entry)) (now (m .exit)) (now (t .exit)) ⌝ }
-{
-    *t = drop_raised(m, l, k, p, *t);
-}
-
-// All uses in the thing end: a tally of zeros is lent, and handed back as it was raised.
-fn drop_tallied(m: &mut [u32], l: Layout, k: usize, p: usize) -> Tally
-    requires { ⌜ CanTally l k p zeros (now m) ⌝ }
-    ensures { λ r. ⌜ Tallied l (kindOf k, p) zeros (now (m .entry)) (now (m .exit)) r ⌝ }
+// The same: a tally of zeros is lent along the walk, and handed back as it was raised there.
+fn drop_lent(m: &mut [u32], l: Layout, k: usize, p: usize, left: usize) -> Tally
+    requires { ⌜ k ≤ 2 ⌝ }
+    requires { ⌜ CanDrop l (kindOf k, p) (walked left zeros) (now m) ⌝ }
+    ensures { λ r. ⌜ Tallied l (kindOf k, p) (now (m .entry)) (now (m .exit)) r ⌝ }
 {
     let mut t = Tally { freed: 0, ended: 0 };
-    drop_counted(m, l, k, p, &mut t);
+    drop_inside(m, l, k, p, left, &mut t);
     t
+}
+
+// All uses in the thing end; the tally says how many operations lie in it and how many uses ended.
+fn drop_tallied(m: &mut [u32], l: Layout, k: usize, p: usize) -> Tally
+    requires { ⌜ k ≤ 2 ⌝ }
+    requires { ⌜ SoundStore l (now m) × Live (stateOf l (now m)) (kindOf k, p) ⌝ }
+    ensures { λ r. ⌜ Tallied l (kindOf k, p) (now (m .entry)) (now (m .exit)) r ⌝ }
+{
+    let n = context::live_count(m, l, 0);
+    drop_lent(m, l, k, p, n)
 }
 
 // Edit 36: all uses in the operation with this number end.

@@ -1,5 +1,4 @@
 use borrow.Author.Needs.{needs}
-use Rattle.walk.proofs.Asked.{may-tally}
 use Rattle.walk.proofs.EraseEdit.{refused-answer, can-erase, done-answer}
 use Rattle.walk.proofs.erase_found.Statement.{statement}
 use Rattle.walk.proofs.erase_found.Tie as tie
@@ -22,7 +21,7 @@ returns c =
 
 drop-tallied-requires : tie.Need-drop-tallied-requires
 drop-tallied-requires c κs =
-    let s = c .before .before .before .before .before .before .before .before .before in may-tally (s .pre .0 .store) (s .args .k) (s .args .p) (s .pre .0 .kind) (s .pre .0 .live)
+    let s = c .before .before .before .before .before .before .before .before .before in (s .pre .0 .kind, (s .pre .0 .store, s .pre .0 .live))
 
 erase-inside-requires : tie.Need-erase-inside-requires
 erase-inside-requires c κs =

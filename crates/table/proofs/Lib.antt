@@ -3,6 +3,7 @@ pub mod Numbers
 pub mod Cells
 pub mod Facts
 pub mod Canon
+pub mod Moves
 pub mod Quick
 pub mod Live
 pub mod Shifts

@@ -9,6 +9,19 @@ ghost use Rattle.context.specs.Memory.{SoundStore};
 ghost use Rattle.context.specs.Performed.{Performed};
 ghost use Rattle.edits.specs.Scratch.{Scratch, PerformedWith};
 
+// Kinds 1 and 2: a new operation or block.
+fn create_edit(m: &mut [u32], l: Layout, rec: &[u8], kind: u32) -> Answer
+    requires { ⌜ SoundStore l (now m) ⌝ }
+    requires { ⌜ Passed kind (fields-of (now rec)) ⌝ }
+    requires { ⌜ kind ≤ 2 ⌝ }
+    ensures { λ r. ⌜ Performed l (edit-of kind (fields-of (now (rec .entry)))) (now (m .entry)) (now (m .exit)) r ⌝ }
+{
+    if kind == 1 {
+        return creation::new_operation(m, l, rec);
+    }
+    creation::new_block(m, l, rec)
+}
+
 // Kinds 3 to 7 for operands (`sl` 0) and 8 to 12 for successors: `step` counts from the first of the five.
 fn use_edit(m: &mut [u32], l: Layout, sl: usize, rec: &[u8], step: u32) -> Answer
     requires { ⌜ SoundStore l (now m) ⌝ }
@@ -160,11 +173,8 @@ pub fn perform(m: &mut [u32], scratch: &mut [u32], l: Layout, rec: &[u8], kind: 
     requires { ⌜ Passed kind (fields-of (now rec)) ⌝ }
     ensures { λ r. ⌜ PerformedWith l (edit-of kind (fields-of (now (rec .entry)))) (now (m .entry)) (now (m .exit)) (now (scratch .entry)) (now (scratch .exit)) r ⌝ }
 {
-    if kind == 1 {
-        return creation::new_operation(m, l, rec);
-    }
-    if kind == 2 {
-        return creation::new_block(m, l, rec);
+    if kind <= 2 {
+        return create_edit(m, l, rec, kind);
     }
     if kind <= 7 {
         return use_edit(m, l, 0, rec, kind - 3);

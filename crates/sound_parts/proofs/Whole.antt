@@ -32,11 +32,11 @@ module _ (o b r v u : ℕ) (to tb tr tv tu ss su sv sr so sb fl ty : List ℕ) w
           must-slot = U .must;
           must-set = λ q h l. let w : (k : ℕ) × (getD ss (home (2 * o) u q) 0 ≡ suc k) = some-code (getD ss (home (2 * o) u q) 0) (U .must q h l) in use-in (U .slots) q h (w .0) (w .1) .held;
           must-val = G .must;
-          must-reg = N .must;
+          must-reg = N .regions .must;
           fit = λ q h k j e d. let A : UseAt o b v u to tu su k q = use-in (U .slots) q h k e in (λ z. omega (arith, A .value z), λ z. omega (arith, A .block z));
           short-slots = λ c h. U .slots c h .short;
           short-vals = G .short;
-          short-regs = N .short;
+          short-regs = N .regions .short;
           flags = N .flags;
           climb = N .climbs;
         }
@@ -45,7 +45,7 @@ module _ (o b r v u : ℕ) (to tb tr tv tu ss su sv sr so sb fl ty : List ℕ) w
         nodes slots q h k e = let A : UseAt o b v u to tu su k q = use-in (U .slots) q h k e in (A .alive, A .holder)
         nodes useSets q h k e = U .sets q h k e
         nodes vals q h k e = G .node q h k e
-        nodes regs q h k e = N .regs q h k e
+        nodes regs q h k e = N .regions .node q h k e
         nodes opsIn q h k e = N .ops q h k e
         nodes blocksIn q h k e = N .blocks q h k e
 
@@ -73,4 +73,4 @@ module _ (o b r v u : ℕ) (to tb tr tv tu ss su sv sr so sb fl ty : List ℕ) w
       vals-of = record { node = X .node vals; must = X .must-val; short = X .short-vals }
 
       pub nest-of : NestOk o b r to tb tr so sb sr fl
-      nest-of = record { regs = X .node regs; must = X .must-reg; short = X .short-regs; ops = X .node opsIn; blocks = X .node blocksIn; flags = X .flags; climbs = X .climb }
+      nest-of = record { regions = record { node = X .node regs; must = X .must-reg; short = X .short-regs }; ops = X .node opsIn; blocks = X .node blocksIn; flags = X .flags; climbs = X .climb }

@@ -103,10 +103,13 @@ pub record NestIn (o b r n : ℕ) (to tb tr so sb sr fl : List ℕ) : Type 0 whe
   pub flags : length fl ≡ o
   pub alive : n ≡ count to
 
-pub record NestOk (o b r : ℕ) (to tb tr so sb sr fl : List ℕ) : Type 0 where
-  pub regs : Direct o r sr tr to
+pub record RegionsOk (o r : ℕ) (to tr sr : List ℕ) : Type 0 where
+  pub node : Direct o r sr tr to
   pub must : Must o r sr tr
   pub short : Short o r sr
+
+pub record NestOk (o b r : ℕ) (to tb tr so sb sr fl : List ℕ) : Type 0 where
+  pub regions : RegionsOk o r to tr sr
   pub ops : Direct b o so to tb
   pub blocks : Direct r b sb tb tr
   pub flags : Flags o to fl

@@ -4,7 +4,7 @@ ghost use Prim.Native.Nat.{_+_, _*_, _≤_, _<_};
 ghost use lib.ListN.{length, getD};
 ghost use Rattle.table.specs.Table.{Says, Shape};
 ghost use Rattle.linked_list.specs.Links.{Sizes, Linked, home};
-ghost use Rattle.sound_parts.specs.Tests.{DirectAt, Direct, ForkAt, Fork, MustAt, Must, Short, FlagAt, Flags, UseAt, Slots, climb, ClimbAt, Climbs, Nest, UsesIn, UsesOk, ValsIn, ValsOk, NestIn, NestOk};
+ghost use Rattle.sound_parts.specs.Tests.{DirectAt, Direct, ForkAt, Fork, MustAt, Must, Short, FlagAt, Flags, UseAt, Slots, climb, ClimbAt, Climbs, Nest, UsesIn, UsesOk, ValsIn, ValsOk, NestIn, RegionsOk, NestOk};
 
 fn wide(x: u32) -> usize
     ensures { λ r. ⌜ r ≡ x ⌝ }
@@ -430,6 +430,27 @@ pub fn check_values(
     true
 }
 
+// The regions: each stands in one list of one live operation, and no list has more than 64.
+fn check_regions(regions: &[u32], o: usize, r: usize, tr: &[u32], to: &[u32]) -> bool
+    requires { ⌜ Shape o (now to) × Shape r (now tr) ⌝ }
+    requires { ⌜ Sizes o r × Linked o r (now regions) ⌝ }
+    ensures { λ k. ⌜ Says k (RegionsOk o r (now (to .entry)) (now (tr .entry)) (now (regions .entry))) ⌝ }
+{
+    let x = check_direct(regions, o, r, tr, to);
+    if !x {
+        return false;
+    }
+    let y = check_must(regions, o, r, tr);
+    if !y {
+        return false;
+    }
+    let z = check_short(regions, o, r);
+    if !z {
+        return false;
+    }
+    true
+}
+
 // Operations, blocks and regions: only live things are linked, each region has its operation, and nothing lies inside itself. n is how
 // many operations live: a climb that does not end within as many meets one twice.
 pub fn check_nest(
@@ -448,32 +469,24 @@ pub fn check_nest(
     requires { ⌜ NestIn o b r n (now to) (now tb) (now tr) (now ops) (now blocks) (now regions) (now flags) ⌝ }
     ensures { λ k. ⌜ Says k (NestOk o b r (now (to .entry)) (now (tb .entry)) (now (tr .entry)) (now (ops .entry)) (now (blocks .entry)) (now (regions .entry)) (now (flags .entry))) ⌝ }
 {
-    let x1 = check_direct(regions, o, r, tr, to);
+    let x1 = check_regions(regions, o, r, tr, to);
     if !x1 {
         return false;
     }
-    let x2 = check_must(regions, o, r, tr);
+    let x2 = check_direct(ops, b, o, to, tb);
     if !x2 {
         return false;
     }
-    let x3 = check_short(regions, o, r);
+    let x3 = check_direct(blocks, r, b, tb, tr);
     if !x3 {
         return false;
     }
-    let x4 = check_direct(ops, b, o, to, tb);
+    let x4 = check_flags(to, o, flags);
     if !x4 {
         return false;
     }
-    let x5 = check_direct(blocks, r, b, tb, tr);
+    let x5 = check_climbs(to, ops, blocks, regions, o, b, r, n);
     if !x5 {
-        return false;
-    }
-    let x6 = check_flags(to, o, flags);
-    if !x6 {
-        return false;
-    }
-    let x7 = check_climbs(to, ops, blocks, regions, o, b, r, n);
-    if !x7 {
         return false;
     }
     true

@@ -1,4 +1,4 @@
--- What an end has to write: from the ended thing on each entry of the order becomes another, so whatever meets the contract of `end` writes one word for each younger thing. Assumes nothing.
+-- What an end has to write: from the ended thing on each entry of the order but the last becomes that of the next younger thing, which is another, so whatever meets the contract of `end` writes a word for each younger thing. Assumes nothing.
 use mathlib.Core.Path.{_≡_, refl, sym, ap, _∙_}
 use mathlib.Core.Logic.{_⊎_, inl, inr, ⊎-elim}
 use mathlib.Core.List.{List}

@@ -16,7 +16,7 @@ use Rattle.places.proofs.Nest.{kindCode, count-gather, gather-on}
 use Rattle.places.proofs.Outside.{part-sum}
 use Rattle.places.proofs.Climb.{opsOf}
 use Rattle.places.proofs.DropAll.{drop-uses, drop-count}
-use Rattle.places.proofs.DropTurn.{append-assoc, append-nil, length-append, gather-append, drop-eq, uses-none, part-sound, kids-kept, walk-kept, drop-kept, loop-kids, loop-sound, loop-turn, loop-ops, loop-ended, loop-done}
+use Rattle.places.proofs.DropTurn.{append-assoc, append-nil, length-append, gather-append, drop-eq, uses-none, part-sound, kids-kept, walk-kept, drop-kept, loop-kids, loop-turn, loop-ops, loop-ended, loop-done}
 use Rattle.context.specs.Memory.{headCode}
 use Rattle.walk.specs.Drop.{operations}
 use Rattle.walk.proofs.Nested.{operations-are, operations-eq}
@@ -65,9 +65,6 @@ module _ {Z : State} {x : Thing} {k : ℕ} {Q : State} (G : Going Z x k Q) (N : 
   pub reads : kids Q x ≡ kids Z x
   reads = ap (λ (P : State). kids P x) so-far ∙ loop-kids (G .sound) x d (N .kid) (N .later) (N .parts)
 
-  pub steady : Sound Q
-  steady = subst (λ (P : State). Sound P) (sym so-far) (loop-sound (G .sound) x d (N .kid) (N .later) (N .parts))
-
   pub same-ops : operations Q (N .kid) ≡ operations Z (N .kid)
   same-ops = operations-are Q (N .kid) ∙ ap (λ (P : State). length (opsOf (walk P (N .kid)))) so-far ∙ loop-ops (G .sound) x d (N .kid) (N .later) (N .parts) ∙ sym (operations-are Z (N .kid))
 
@@ -97,14 +94,6 @@ module _ {Z : State} {x : Thing} {k : ℕ} {Q : State} (G : Going Z x k Q) (N : 
   pub more-ended : {R : State} (j : ℕ) (e : R ≡ dropped Q (N .kid)) (h : j ≡ headCode (N .later)) → endedIn (goes-on j e h) ≡ endedIn G + length (dropList Q (N .kid))
   unfolding goes-on
   more-ended j e h = omega (arith, ap length (gather-append (dropList Z) d (N .kid ∷ [])), length-append (gather (dropList Z) d) (gather (dropList Z) (N .kid ∷ [])), length-append (dropList Z (N .kid)) [], same-ended)
-
-  -- the code falls back in the list
-  pub todo-is : G .todo ≡ N .kid ∷ N .later
-  todo-is = left-cancel d (G .todo) (N .kid ∷ N .later) (sym (G .parts) ∙ N .parts)
-    where
-      left-cancel : (a b c : List Thing) → a ++ b ≡ a ++ c → b ≡ c
-      left-cancel [] b c e = e
-      left-cancel (y ∷ a) b c e = left-cancel a b c (cc)
 
 -- what lies in x is the same all along
 pub after-kids : {Z : State} {x : Thing} {k : ℕ} {Q : State} → Going Z x k Q → kids Q x ≡ kids Z x

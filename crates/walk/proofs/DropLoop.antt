@@ -31,9 +31,8 @@ use denote.Triple.Statement.{Triple}
 use Rattle.places.specs.Store.{Thing}
 use Rattle.places.specs.Parts.{nodeIn}
 use Rattle.context.specs.declared.Layout.{Layout}
-use Rattle.context.specs.Layout.{famOf, ncOf, nnOf}
+use Rattle.context.specs.Layout.{famOf, ncOf}
 use Rattle.context.specs.Memory.{Well, FirstIs}
-use Rattle.context.specs.Reading.{NextIs}
 use Rattle.context.proofs.Layout.Laws as L′
 use Rattle.context.proofs.first_of.Symbol.{name as #context·first-of}
 use Rattle.context.proofs.next_of.Symbol.{name as #context·next-of}
@@ -42,7 +41,7 @@ use Rattle.walk.specs.Drop.{Walked, walked}
 use Rattle.walk.proofs.Tally as T
 use Rattle.walk.proofs.Tally.Laws as T′
 use Rattle.walk.proofs.Lending.{word, to-words, to-read, to-tally, from-at, at-layout, IsLayout}
-use Rattle.walk.proofs.Loans.{Asking, asks, Drops, left-of, drops}
+use Rattle.walk.proofs.Loans.{FirstOf, NextOf, a-container, a-node, first-is, next-is, asks, Drops, left-of, drops}
 use Rattle.walk.proofs.DropWalk.{Nests, Dropping, ahead, child, no-more as fewer, asked, turn as turned, less}
 
 -- ---- the MIR
@@ -137,7 +136,7 @@ no : (k : ℕ) → k ≡ 0 → not (eqb k 0) ≡ false
 no k e = ap (λ (i : ℕ). not (eqb i 0)) e
 
 module _ {M : Type 1} (𝓤 : URA M) (H : Heap 𝓤) (A : Atoms 𝓤) (W : Given 𝓤 H A) (𝓣 : Tables 𝓤 H)
-    (known : Triple 𝓤 (𝓣 .C #context·next-of) (Asking 𝓤 H A Well (λ l f n. n < nnOf l (famOf f)) (λ l f n m r. NextIs l (famOf f) n m r)))
+    (known : Triple 𝓤 (𝓣 .C #context·next-of) (NextOf 𝓤 H A))
     (l : Layout) (l-is : IsLayout l) (f : ℕ) (f-fits : T (ltb f (2 ^ 64))) (x : Thing) (N : Nests l (famOf f) x) (m₀ : List ℕ) (w₀ : Walked) (size : ℕ) (room : Room u32 size)
     (c : Name) (self : (y : Drops 𝓤 H A (nodeIn (famOf f)) .Ghost) → left-of 𝓤 H A (nodeIn (famOf f)) y ≤ w₀ .left → ent 𝓤 (Drops 𝓤 H A (nodeIn (famOf f)) .pre y) (𝓣 .C c (Drops 𝓤 H A (nodeIn (famOf f)) .args y) (Drops 𝓤 H A (nodeIn (famOf f)) .post y)))
     (En : Env 𝓤 H) (e : ℕ) (S : Spots 𝓤 H En e) (b o b′ o′ : ℕ) (Γ : List (Item 𝓤)) where
@@ -175,7 +174,7 @@ module _ {M : Type 1} (𝓤 : URA M) (H : Heap 𝓤) (A : Atoms 𝓤) (W : Given
         assigns tt (agg tt (and-then tt (load tt (from-at tt (S .at-seen) (stop tt)) (look tt 9 refl)) (and-then tt (load tt (from-at tt (S .at-store) (fld tt refl (stop tt))) (look-in tt 11 (sub tt 1 refl (whole tt)))) (no-more tt)))) (from-at tt (S .at-read) (stop tt)) (init tt 10 refl (tt, (tt, (record { fits = room .0 }, tt)))) $
         rewrite tt 10 (λ (i : ℕ). ‵ (fat fullShare (sliceTy to-read) (S .read) 0 (sliceVal (b, o) i))) (sym (same ∙ u .same)) refl $
         assigns tt (bin tt (load tt (from-at tt (S .at-code) (stop tt)) (look tt 2 refl)) (lit tt tt) (some (u .k) h)) (from-at tt (S .at-place) (stop tt)) (store tt 7 refl (tt, record { fits = fits₁ })) $
-        asks (fmOf 𝓤 H (W .laws) 𝓣) Well (λ l f n. n < nnOf l (famOf f)) (λ l f n m r. NextIs l (famOf f) n m r) known tt ws b o (subst (λ (i : ℕ). Room u32 i) (sym (same ∙ u .same)) room) l l-is f (u .k - 1) (ltb→lt f (2 ^ 64) f-fits) fits₁ (asked N (u .inv) h told .0) (asked N (u .inv) h told .1)
+        asks (fmOf 𝓤 H (W .laws) 𝓣) Well a-node next-is known tt ws b o (subst (λ (i : ℕ). Room u32 i) (sym (same ∙ u .same)) room) l l-is f (u .k - 1) (ltb→lt f (2 ^ 64) f-fits) fits₁ (asked N (u .inv) h told .0) (asked N (u .inv) h told .1)
         (λ ν γ. and-then tt (load tt (from-at tt (S .at-read) (stop tt)) (look tt 11 refl)) (and-then tt (load tt (from-at tt (S .at-layout) (stop tt)) (look tt 13 refl)) (and-then tt (lit tt f-fits) (and-then tt (load tt (from-at tt (S .at-place) (stop tt)) (look tt 8 refl)) (no-more tt))))) (λ j j-fits next.
         land-last tt (from-at tt (S .at-code) (stop tt)) (store tt 2 refl (tt, record { fits = j-fits })) $
         forget tt 4 refl $ forget tt 5 refl $ forget tt 6 refl $ forget tt 7 refl $ forget tt 8 refl $ forget tt 9 refl $ forget tt 10 refl $
@@ -196,7 +195,7 @@ module _ {M : Type 1} (𝓤 : URA M) (H : Heap 𝓤) (A : Atoms 𝓤) (W : Given
     drops-all left = loops tt 𝓣 ≺ (InvImage·wf (λ (u : At). ahead l x (u .zs) (u .k)) (Nat·lt-wfRel .wf)) I (λ u. by-cases (ℕ-discrete (u .k) 0) (λ z. ends u z (left u)) (λ h. more u h))
 
   -- from the store and the tally at the beginning; `done` has what comes after
-  pub drops-in : (q : Post 𝓤 H) (rest : Code) → Triple 𝓤 (𝓣 .C #context·first-of) (Asking 𝓤 H A Well (λ l f k. k < ncOf l (famOf f)) (λ l f k m r. FirstIs l (famOf f) k m r))
+  pub drops-in : (q : Post 𝓤 H) (rest : Code) → Triple 𝓤 (𝓣 .C #context·first-of) (FirstOf 𝓤 H A)
       → length m₀ ≡ size → x .1 < 2 ^ 64 → (n : ℕ) → n < 2 ^ 64 → (h : Tally) → Well l m₀ → x .1 < ncOf l (famOf f)
       → ((k : ℕ) → FirstIs l (famOf f) (x .1) m₀ k → Dropping l x m₀ m₀ k w₀ (walked n h))
       → ((u : At) → u .k ≡ 0 → Seq (Unit {0}) W (I u) (runs (𝓣 .C) (𝓣 .Λ) En rest q))
@@ -210,7 +209,7 @@ module _ {M : Type 1} (𝓤 : URA M) (H : Heap 𝓤) (A : Atoms 𝓤) (W : Given
       assigns tt (addr tt (from-at tt (S .at-store) (fld tt refl (hop tt (look-in tt 11 (sub tt 0 refl (whole tt))) (stop tt))))) (from-at tt (S .at-glance) (stop tt)) (init tt 14 refl (tt, tt)) $
       assigns tt (agg tt (and-then tt (load tt (from-at tt (S .at-glance) (stop tt)) (look tt 14 refl)) (and-then tt (load tt (from-at tt (S .at-store) (fld tt refl (stop tt))) (look-in tt 11 (sub tt 1 refl (whole tt)))) (no-more tt)))) (from-at tt (S .at-view) (stop tt)) (init tt 15 refl (tt, (tt, (record { fits = room .0 }, tt)))) $
       rewrite tt 15 (λ (i : ℕ). ‵ (fat fullShare (sliceTy to-read) (S .view) 0 (sliceVal (b, o) i))) (sym same) refl $
-      first tt $ asks (fmOf 𝓤 H (W .laws) 𝓣) Well (λ l f k. k < ncOf l (famOf f)) (λ l f k m r. FirstIs l (famOf f) k m r) first-known tt m₀ b o (subst (λ (i : ℕ). Room u32 i) (sym same) room) l l-is f (x .1) (ltb→lt f (2 ^ 64) f-fits) p-fits well row
+      first tt $ asks (fmOf 𝓤 H (W .laws) 𝓣) Well a-container first-is first-known tt m₀ b o (subst (λ (i : ℕ). Room u32 i) (sym same) room) l l-is f (x .1) (ltb→lt f (2 ^ 64) f-fits) p-fits well row
       (λ ν γ. and-then tt (load tt (from-at tt (S .at-view) (stop tt)) (look tt 16 refl)) (and-then tt (load tt (from-at tt (S .at-layout) (stop tt)) (look tt 13 refl)) (and-then tt (lit tt f-fits) (and-then tt (load tt (from-at tt (S .at-thing) (stop tt)) (look tt 17 refl)) (no-more tt))))) (λ k k-fits told.
       land-last tt (from-at tt (S .at-code) (stop tt)) (init tt 2 refl (tt, record { fits = k-fits })) $ exec tt (𝓣 .C) (𝓣 .Λ) En (seq (block (loop (turn-of c (e + 2) f))) rest) q $ forget tt 14 refl $ forget tt 15 refl $
       first tt $ blocks tt $ drops-all (anyQ (afterBlock 𝓤 H (afterSeq 𝓤 H (Wp 𝓤 H (𝓣 .C) (𝓣 .Λ) En rest (post 𝓤 H q)) (post 𝓤 H q)))) (λ u z. exec tt (𝓣 .C) (𝓣 .Λ) En rest q $ done u z)

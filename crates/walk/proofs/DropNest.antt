@@ -41,9 +41,7 @@ use Rattle.seqs.specs.Seqs.{tick}
 use Rattle.places.specs.Store.{Kind, Kind-dec, op, reg}
 use Rattle.places.specs.Parts.{nodeIn}
 use Rattle.context.specs.declared.Layout.{Layout}
-use Rattle.context.specs.Layout.{famOf, ncOf, nnOf}
-use Rattle.context.specs.Memory.{Well, FirstIs}
-use Rattle.context.specs.Reading.{NextIs}
+use Rattle.context.specs.Layout.{famOf}
 use Rattle.context.proofs.first_of.Symbol.{name as #context·first-of}
 use Rattle.context.proofs.next_of.Symbol.{name as #context·next-of}
 use Rattle.context.proofs.Layout as L
@@ -54,7 +52,7 @@ use Rattle.walk.proofs.Tally as T
 use Rattle.walk.proofs.Tally.Laws as T′
 use Rattle.walk.proofs.Lending.{word, to-words, to-read, to-tally, at-layout, at-tally, IsLayout, IsTally, lies-in, lies-out, plainly}
 use Rattle.walk.proofs.OwnUses.{may-own, one-left, own-dropped}
-use Rattle.walk.proofs.Loans.{Asking, dropping, Drops, left-of, Ends, ends-own}
+use Rattle.walk.proofs.Loans.{FirstOf, NextOf, dropping, Drops, left-of, Ends, ends-own}
 use Rattle.walk.proofs.DropWalk.{Nests, in-op, Ready, ready-op, begun, whole, whole-op, row<}
 use Rattle.walk.proofs.DropLoop.{all-of, drops-in}
 use Rattle.walk.proofs.drop_own.Symbol.{name as #walk·drop-own}
@@ -201,8 +199,8 @@ module _ {M : Type 1} {𝓤 : URA M} {H : Heap 𝓤} {A : Atoms 𝓤} (W : Given
 
   -- ---- the walks
   module _ (bounds : AllOutlive 2 (walk.signature .outlives) (κ, (κ′, tt))) (l-is : IsLayout l) (p-fits : p < 2 ^ 64) (n-fits : n < 2 ^ 64) (room : Room u32 (length ys)) (𝓣 : Tables 𝓤 H)
-      (first-known : Triple 𝓤 (𝓣 .C #context·first-of) (Asking 𝓤 H A Well (λ l f k. k < ncOf l (famOf f)) (λ l f k m r. FirstIs l (famOf f) k m r)))
-      (next-known : Triple 𝓤 (𝓣 .C #context·next-of) (Asking 𝓤 H A Well (λ l f n. n < nnOf l (famOf f)) (λ l f n m r. NextIs l (famOf f) n m r))) where
+      (first-known : Triple 𝓤 (𝓣 .C #context·first-of) (FirstOf 𝓤 H A))
+      (next-known : Triple 𝓤 (𝓣 .C #context·next-of) (NextOf 𝓤 H A)) where
     abbrev given-vals : List Val
     given-vals = sliceVal (b, o) (length ys) ∷ at-layout l ∷ vint w64 p ∷ vint w64 n ∷ vptr b′ o′ ∷ []
 

@@ -8,7 +8,7 @@ use lib.ListN.{length}
 use Rattle.seqs.specs.Seqs.{tick, count, In, sum}
 use Rattle.places.specs.Store.{Kind-dec, op, blk, reg, Role, regions, blocks, ops, Fam, regs, opsIn, blocksIn, fam, nodeOf, Thing, Thing-dec, Con, State, Live, Link, Linked, Sound}
 use Rattle.places.specs.Parts.{nodeIn, rowsOf}
-use Rattle.places.specs.Walk.{kids, usesAt, dropList, dropped}
+use Rattle.places.specs.Walk.{cutAll, kids, usesAt, dropList, dropped}
 use Rattle.seqs.proofs.Base.{tick-yes, tick-no, count-append, in-head}
 use Rattle.places.proofs.Steps.{thing-eq, listed}
 use Rattle.places.proofs.Nest.{kindCode}
@@ -18,7 +18,7 @@ use Rattle.context.specs.Layout.{capOf, ncOf, nnOf}
 use Rattle.context.specs.Memory.{part, con, stateOf, Well, SoundStore, headCode, FirstIs}
 use Rattle.context.specs.Reading.{listOf, NextIs}
 use Rattle.context.proofs.Places.{place<}
-use Rattle.walk.specs.Drop.{Walked, operations, CanDrop, Counted, OwnDropped, Dropped}
+use Rattle.walk.specs.Drop.{Walked, operations, CanDrop, Counted, Dropped}
 use Rattle.context.proofs.Cursor.{from, from-code, Single, single, kid-live}
 use Rattle.walk.proofs.Nested.{operations-eq}
 use Rattle.walk.proofs.DropLaws.{Going, reached, endedIn, Next, begins, next, reads, same-ops, enough, goes-on, more-reached, more-ended, ends, all-reached, all-ended, region-own, block-own, own-none, own-rest, own-ops, own-ended, after-kids}
@@ -82,6 +82,13 @@ module _ {l : Layout} {f : Fam} {x : Thing} (T : Nests l f x) (m : List ℕ) (S 
       ∙ from-code (nodeOf (T .role)) a b (subst (λ (z : List Thing). Single (nodeOf (T .role)) z) (sym (T .lists S) ∙ e) (single S x (T .role)))
 
 -- ---- the loop
+
+-- the uses of the operation itself ended
+pub record OwnDropped (l : Layout) (x : Thing) (w : Walked) (m m′ : List ℕ) (r : Walked) : Type 0 where
+  pub store : SoundStore l m′
+  pub rest : part l m′ 14 ≡ part l m 14
+  pub state : stateOf l m′ ≡ cutAll (usesAt (stateOf l m) x) (stateOf l m)
+  pub numbers : Counted w 1 (length (usesAt (stateOf l m) x)) r
 
 -- x can be gone through: it has no uses of its own
 pub record Ready (l : Layout) (x : Thing) (w : Walked) (m : List ℕ) : Type 0 where

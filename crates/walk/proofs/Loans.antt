@@ -1,5 +1,5 @@
 -- Calls on what is lent for the call alone, for the functions that hold the store and a tally by reference and whose proofs walk their MIR:
--- `asks` lends the store to be read, `drops` lends the store and the tally to be changed. Each takes back what it lent. Assumes `Given`.
+-- `asks` lends the store to be read, `drops` lends the store and the tally to be changed, `ends-own` lends the store and hands the tally over. Each takes back what it lent. Assumes `Given`.
 use mathlib.Core.Path.{_≡_, refl, ap, subst}
 use mathlib.Core.List.{[], _∷_, List}
 use Prim.Native.Nat.{ℕ, _<_, _^_}
@@ -34,6 +34,9 @@ use denote.Triple.Clauses.{Clauses, closing, ensured, lasts}
 use denote.Triple.Spec.{tripleOf}
 use denote.Triple.Walked.{says}
 use Rattle.context.specs.declared.Layout.{Layout}
+use Rattle.context.specs.Layout.{famOf, ncOf, nnOf}
+use Rattle.context.specs.Memory.{Well, FirstIs}
+use Rattle.context.specs.Reading.{NextIs}
 use Rattle.context.proofs.Layout as L
 use Rattle.context.proofs.Layout.Laws as L′
 use Rattle.context.proofs.first_of as asked
@@ -45,6 +48,10 @@ use Rattle.walk.proofs.Tally.Laws as T′
 use Rattle.walk.proofs.drop_own as own
 use Rattle.walk.proofs.drop_region as walk
 use Rattle.walk.proofs.Lending.{at-layout, at-tally, IsLayout, IsTally, plainly}
+
+-- the store as it is lent to be changed, for a lifetime of the call
+abbrev pub store-lent : List ℕ → ℕ → ℕ → ℕ → GName → Fml
+store-lent zs b o ν γ = MutSlice (named 0) (ν ∷ []) u32 .own (record { ptr = (b, o); name = γ; now = zs }) (sliceVal (b, o) (length zs) ∷ [])
 
 -- ---- the store is lent to be read
 
@@ -99,6 +106,26 @@ module _ {M : Type 1} {𝓤 : URA M} {H : Heap 𝓤} {A : Atoms 𝓤} {K : Type 
         word-laws : PartsLaws 𝓤 H A (mem u32) (shares u32)
         word-laws = share-laws 𝓤 H A W u32 (Is u32) (shows 𝓤 H A u32) (uint-vals w32) (uint-tells w32) (uint-copy 𝓤 H A W w32)
 
+-- the first and the next code of a list
+abbrev pub a-container : Layout → ℕ → ℕ → Type 0
+a-container l f k = k < ncOf l (famOf f)
+
+abbrev pub a-node : Layout → ℕ → ℕ → Type 0
+a-node l f n = n < nnOf l (famOf f)
+
+abbrev pub first-is : Layout → ℕ → ℕ → List ℕ → ℕ → Type 0
+first-is l f k m r = FirstIs l (famOf f) k m r
+
+abbrev pub next-is : Layout → ℕ → ℕ → List ℕ → ℕ → Type 0
+next-is l f n m r = NextIs l (famOf f) n m r
+
+module _ {M : Type 1} (𝓤 : URA M) (H : Heap 𝓤) (A : Atoms 𝓤) where
+  abbrev pub FirstOf : Contract 𝓤
+  FirstOf = Asking 𝓤 H A Well a-container first-is
+
+  abbrev pub NextOf : Contract 𝓤
+  NextOf = Asking 𝓤 H A Well a-node next-is
+
 -- ---- the store and the tally are lent to be changed
 
 -- the contract of the walk's functions, which is one for the three kinds
@@ -118,9 +145,6 @@ module _ {M : Type 1} (𝓤 : URA M) (H : Heap 𝓤) (A : Atoms 𝓤) (k : Kind)
   left-of y = y .0 .3 .1 .1 .1 .0
 
   module _ (W : Given 𝓤 H A) (zs : List ℕ) (b o : ℕ) (h : Tally) (b′ o′ : ℕ) (l : Layout) (p n : ℕ) where
-    abbrev store-lent : ℕ → GName → Fml
-    store-lent ν γ = MutSlice (named 0) (ν ∷ []) u32 .own (record { ptr = (b, o); name = γ; now = zs }) (sliceVal (b, o) (length zs) ∷ [])
-
     abbrev tally-lent : ℕ → GName → Fml
     tally-lent ν γ = MutRef (named 1) (ν ∷ []) T.the-row .own (record { ptr = (b′, o′); name = γ; now = h }) (vptr b′ o′ ∷ [])
 
@@ -137,9 +161,9 @@ module _ {M : Type 1} (𝓤 : URA M) (H : Heap 𝓤) (A : Atoms 𝓤) (k : Kind)
     )
 
     goes-drop : (ν : ℕ) (γ : GName) (ν′ : ℕ) (γ′ : GName) → IsLayout l → p < 2 ^ 64 → n < 2 ^ 64 → CanDrop l (k, p) (walked n h) zs
-        → ent 𝓤 (⋆ 𝓤 H A ((‵ (flft (ν ∷ []) fullShare) ⊛ ‵ (flft (ν′ ∷ []) fullShare) ⊛ ‵ ftrue) ∷ ‵ (store-lent ν γ) ∷ ‵ (tally-lent ν′ γ′) ∷ [])) (Drops .pre (to-drop ν γ ν′ γ′))
+        → ent 𝓤 (⋆ 𝓤 H A ((‵ (flft (ν ∷ []) fullShare) ⊛ ‵ (flft (ν′ ∷ []) fullShare) ⊛ ‵ ftrue) ∷ ‵ (store-lent zs b o ν γ) ∷ ‵ (tally-lent ν′ γ′) ∷ [])) (Drops .pre (to-drop ν γ ν′ γ′))
     goes-drop ν γ ν′ γ′ l-is p-fits n-fits can =
-        qed W ((‵ (flft (ν ∷ []) fullShare) ⊛ ‵ (flft (ν′ ∷ []) fullShare) ⊛ ‵ ftrue) ∷ ‵ (store-lent ν γ) ∷ ‵ (tally-lent ν′ γ′) ∷ []) ∵ says ! can $ frame ! $
+        qed W ((‵ (flft (ν ∷ []) fullShare) ⊛ ‵ (flft (ν′ ∷ []) fullShare) ⊛ ‵ ftrue) ∷ ‵ (store-lent zs b o ν γ) ∷ ‵ (tally-lent ν′ γ′) ∷ []) ∵ says ! can $ frame ! $
         nothing ! $ move ! (2 ∷ 0 ∷ []) $ fjoin ! $ plainly ! l (p ∷ n ∷ []) l-is (p-fits, (n-fits, tt)) $ move ! (1 ∷ 0 ∷ []) $ fjoin ! $ done !
 
 -- the store stands in cells and the tally in its place; the function is called on both as they are lent for the call
@@ -152,7 +176,7 @@ module _ {M : Type 1} {𝓤 : URA M} {H : Heap 𝓤} {A : Atoms 𝓤} {K : Type 
       → Seq K W (‵ (cells (mem u32) zs b o) ∷ ‵ (partAt T.the-row fullShare h b′ o′) ∷ Γ) (runs C Λ En (call f xs d) q)
   drops t fm k zs b o room h b′ o′ l l-is p n p-fits n-fits can self os go =
       lft-new t tt (λ ν. lft-new t tt (λ ν′. move t (2 ∷ []) $
-      use1 W (later (some (λ (γ : GName). ‵ (store-lent 𝓤 H A k W zs b o h b′ o′ l p n ν γ) ⊛ ‵ (flent (ν ∷ []) (Held u32 (length zs) b o γ))))) (lends-slice 𝓤 H A W u32 (named 0) (ν ∷ []) zs b o room) $ await t tt $ pick t (λ γ. split t $ move t (4 ∷ []) $
+      use1 W (later (some (λ (γ : GName). ‵ (store-lent zs b o ν γ) ⊛ ‵ (flent (ν ∷ []) (Held u32 (length zs) b o γ))))) (lends-slice 𝓤 H A W u32 (named 0) (ν ∷ []) zs b o room) $ await t tt $ pick t (λ γ. split t $ move t (4 ∷ []) $
       use1 W (later (some (λ (γ′ : GName). ‵ (tally-lent 𝓤 H A k W zs b o h b′ o′ l p n ν′ γ′) ⊛ ‵ (flent (ν′ ∷ []) (Body (mem T.the-row) b′ o′ γ′))))) (lends-ref 𝓤 H A W T.the-row (named 1) (ν′ ∷ []) h b′ o′) $ await t tt $ pick t (λ γ′. split t $
       -- [the tally's reference; its lender's part; the store's; its lender's part; ν′'s token; ν's token]
       nothing t $ move t (5 ∷ 0 ∷ []) $ join t $ move t (5 ∷ 0 ∷ []) $ join t $ move t (0 ∷ 3 ∷ 1 ∷ 4 ∷ []) $
@@ -185,16 +209,13 @@ module _ {M : Type 1} (𝓤 : URA M) (H : Heap 𝓤) (A : Atoms 𝓤) where
   Ends = tripleOf 𝓤 H A own.signature (closing 𝓤 H A own.ended ending)
 
   module _ (W : Given 𝓤 H A) (zs : List ℕ) (b o : ℕ) (l : Layout) (p : ℕ) (h : Tally) where
-    abbrev words-lent : ℕ → GName → Fml
-    words-lent ν γ = MutSlice (named 0) (ν ∷ []) u32 .own (record { ptr = (b, o); name = γ; now = zs }) (sliceVal (b, o) (length zs) ∷ [])
-
     abbrev to-end : ℕ → GName → Ends .Ghost
     to-end ν γ = (((ν ∷ [], tt), (fullShare, tt), tt, (record { ptr = (b, o); name = γ; now = zs }, (l, (p, (h, tt)))), (sliceVal (b, o) (length zs) ∷ [], (at-layout l ∷ [], (vint w64 p ∷ [], (at-tally h ∷ [], tt))))), tt)
 
     goes-end : (ν : ℕ) (γ : GName) → IsLayout l → p < 2 ^ 64 → IsTally h → CanOwn l p h zs
-        → ent 𝓤 (sep 𝓤 (A .lft (ν ∷ []) fullShare) (sem 𝓤 H A (words-lent ν γ))) (Ends .pre (to-end ν γ))
+        → ent 𝓤 (sep 𝓤 (A .lft (ν ∷ []) fullShare) (sem 𝓤 H A (store-lent zs b o ν γ))) (Ends .pre (to-end ν γ))
     goes-end ν γ l-is p-fits h-is can =
-        qed W (‵ (flft (ν ∷ []) fullShare) ∷ ‵ (words-lent ν γ) ∷ []) ∵ says ! can $ nothing ! $ move ! (1 ∷ 0 ∷ []) $ join ! $ frame ! $
+        qed W (‵ (flft (ν ∷ []) fullShare) ∷ ‵ (store-lent zs b o ν γ) ∷ []) ∵ says ! can $ nothing ! $ move ! (1 ∷ 0 ∷ []) $ join ! $ frame ! $
         nothing ! $ owned ! T.the-row (Is T.the-row) (LL.makes T.the-type T′.the-plain 𝓤 H A) h _ h-is $ fjoin ! $ owned ! usize (Is usize) (uint-makes 𝓤 H A W w64) p _ (refl, p-fits) $ fjoin ! $
         owned ! L.the-row (Is L.the-row) (LL.makes L.the-type L′.the-plain 𝓤 H A) l _ l-is $ fjoin ! $ move ! (1 ∷ 0 ∷ []) $ fjoin ! $ done !
 
@@ -205,7 +226,7 @@ module _ {M : Type 1} {𝓤 : URA M} {H : Heap 𝓤} {A : Atoms 𝓤} {K : Type 
       → Seq K W (‵ (cells (mem u32) zs b o) ∷ Γ) (runs C Λ En (call f xs d) q)
   ends-own t fm known zs b o room l l-is p p-fits h h-is can os go =
       lft-new t tt (λ ν. move t (1 ∷ []) $
-      use1 W (later (some (λ (γ : GName). ‵ (words-lent 𝓤 H A W zs b o l p h ν γ) ⊛ ‵ (flent (ν ∷ []) (Held u32 (length zs) b o γ))))) (lends-slice 𝓤 H A W u32 (named 0) (ν ∷ []) zs b o room) $ await t tt $ pick t (λ γ. split t $
+      use1 W (later (some (λ (γ : GName). ‵ (store-lent zs b o ν γ) ⊛ ‵ (flent (ν ∷ []) (Held u32 (length zs) b o γ))))) (lends-slice 𝓤 H A W u32 (named 0) (ν ∷ []) zs b o room) $ await t tt $ pick t (λ γ. split t $
       move t (2 ∷ 0 ∷ []) $ use2 W (raw (Ends 𝓤 H A .pre (to-end 𝓤 H A W zs b o l p h ν γ))) (goes-end 𝓤 H A W zs b o l p h ν γ l-is p-fits h-is can) $
       calls-from-last t fm (raw (Ends 𝓤 H A .pre (to-end 𝓤 H A W zs b o l p h ν γ))) (sliceVal (b, o) (length zs) ∷ at-layout l ∷ vint w64 p ∷ at-tally h ∷ []) (Ends 𝓤 H A .post (to-end 𝓤 H A W zs b o l p h ν γ)) (known (to-end 𝓤 H A W zs b o l p h ν γ)) (os ν γ) (λ v.
       use1 W (later (some (λ (g : Tally). ((‵ (flft (ν ∷ []) fullShare) ⊛ ‵ ftrue) ⊛ ‵ (T.the-row .own g (v ∷ []))) ⊛ raw (ensured 𝓤 H A own.ended (ending 𝓤 H A) (ν ∷ [], tt) (to-end 𝓤 H A W zs b o l p h ν γ .0 .3) tt g)))) (id⊢ 𝓤 _) $ await t tt $ pick t (λ g.

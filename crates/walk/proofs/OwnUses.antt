@@ -22,7 +22,8 @@ use Rattle.context.specs.Memory.{con, stateOf, SoundStore}
 use Rattle.context.specs.Steps.{DroppedAll}
 use Rattle.context.proofs.Places.{place<}
 use Rattle.walk.specs.declared.Tally.{Tally}
-use Rattle.walk.specs.Drop.{Walked, walked, CanDrop, OwnDropped, CanOwn, OwnTallied}
+use Rattle.walk.specs.Drop.{Walked, walked, CanDrop, CanOwn, OwnTallied}
+use Rattle.walk.proofs.DropWalk.{OwnDropped}
 use Rattle.walk.proofs.Nested.{operations-eq}
 
 pub con-operands : (l : Layout) (o : ℕ) → con l slots (2 * o) ≡ (operands, (op, o))

@@ -40,13 +40,6 @@ pub record Counted (w : Walked) (n e : ℕ) (r : Walked) : Type 0 where
   pub ended : r .ended ≡ w .ended + e
   pub small : r .ended + 128 * r .left ≤ w .ended + 128 * w .left
 
--- the uses of the operation itself ended
-pub record OwnDropped (l : Layout) (x : Thing) (w : Walked) (m m′ : List ℕ) (r : Walked) : Type 0 where
-  pub store : SoundStore l m′
-  pub rest : part l m′ 14 ≡ part l m 14
-  pub state : stateOf l m′ ≡ cutAll (usesAt (stateOf l m) x) (stateOf l m)
-  pub numbers : Counted w 1 (length (usesAt (stateOf l m) x)) r
-
 -- all uses inside x ended
 pub record Dropped (l : Layout) (x : Thing) (w : Walked) (m m′ : List ℕ) (r : Walked) : Type 0 where
   pub store : SoundStore l m′

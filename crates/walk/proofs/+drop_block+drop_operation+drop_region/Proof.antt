@@ -27,9 +27,6 @@ use denote.Triple.Table.{cited}
 use denote.Triple.Walked.{needs, walked-at, AllGo, goes-none, goes-gave-slice, goes-gave-ref, walk-meets-at}
 use denote.Triple.Cycle.{Stated, AllMeet, Graded, measured, at-on, mutual-elim}
 use Rattle.places.specs.Store.{Kind, op, blk, reg}
-use Rattle.context.specs.Layout.{famOf, ncOf, nnOf}
-use Rattle.context.specs.Memory.{Well, FirstIs}
-use Rattle.context.specs.Reading.{NextIs}
 use Rattle.context.proofs.Layout as L
 use Rattle.context.proofs.Layout.Laws as L′
 use Rattle.context.proofs.first_of.Symbol as first-of
@@ -40,7 +37,7 @@ use Rattle.walk.specs.Drop.{walked, CanDrop}
 use Rattle.walk.proofs.Tally as T
 use Rattle.walk.proofs.DropWalk.{in-region, in-block, ready-region, ready-block, blk-no-op, reg-no-op}
 use Rattle.walk.proofs.OwnUses.{one-left}
-use Rattle.walk.proofs.Loans.{Asking, Ends, dropping, Drops, left-of}
+use Rattle.walk.proofs.Loans.{FirstOf, NextOf, Ends, dropping, Drops, left-of}
 use Rattle.walk.proofs.DropNest.{stayed, inner, outer, walks-inner, walks-outer, Called}
 use Rattle.walk.proofs.drop_own.Symbol as drop-own
 use Rattle.walk.proofs.drop_own.Met as own-thm
@@ -52,12 +49,6 @@ use Rattle.walk.proofs.+drop_block+drop_operation+drop_region.{statemen
 use Rattle.walk.proofs.+drop_block+drop_operation+drop_region.Code as code
 
 module _ {M : Type 1} (𝓤 : URA M) (H : Heap 𝓤) (A : Atoms 𝓤) where
-  abbrev FirstOf : Fun 𝓤 → Type 1
-  FirstOf f = Triple 𝓤 f (Asking 𝓤 H A Well (λ l f k. k < ncOf l (famOf f)) (λ l f k m r. FirstIs l (famOf f) k m r))
-
-  abbrev NextOf : Fun 𝓤 → Type 1
-  NextOf f = Triple 𝓤 f (Asking 𝓤 H A Well (λ l f n. n < nnOf l (famOf f)) (λ l f n m r. NextIs l (famOf f) n m r))
-
   abbrev stated : Kind → Fun 𝓤 → Stated 𝓤
   stated k f = record { signature = walk.signature; run = f; spec = closing 𝓤 H A walk.ended (dropping 𝓤 H A k) }
 
@@ -67,7 +58,7 @@ module _ {M : Type 1} (𝓤 : URA M) (H : Heap 𝓤) (A : Atoms 𝓤) where
   abbrev grade : (k : Kind) → ℕ → (f : Fun 𝓤) → Graded 𝓤 H A ℕ (stated k f)
   grade k i f = measured 𝓤 H A (stated k f) (μ k i)
 
-module _ {M : Type 1} (𝓤 : URA M) (H : Heap 𝓤) (A : Atoms 𝓤) (W : Given 𝓤 H A) (𝓣 : Tables 𝓤 H) (first-known : FirstOf 𝓤 H A (𝓣 .C first-of.name)) (next-known : NextOf 𝓤 H A (𝓣 .C next-of.name)) (own-known : Triple 𝓤 (𝓣 .C drop-own.name) (Ends 𝓤 H A)) where
+module _ {M : Type 1} (𝓤 : URA M) (H : Heap 𝓤) (A : Atoms 𝓤) (W : Given 𝓤 H A) (𝓣 : Tables 𝓤 H) (first-known : Triple 𝓤 (𝓣 .C first-of.name) (FirstOf 𝓤 H A)) (next-known : Triple 𝓤 (𝓣 .C next-of.name) (NextOf 𝓤 H A)) (own-known : Triple 𝓤 (𝓣 .C drop-own.name) (Ends 𝓤 H A)) where
   goes : AllGo 𝓤 H A W 2 (walk.signature .params) (walk.ended .kept) stayed
   goes = (goes-gave-slice 𝓤 H A W 2 0 tt (plain (λ _. u32)), (goes-none 𝓤 H A W 2 (λ _. L.the-row) yes (λ κs x f. refl), (goes-none 𝓤 H A W 2 (λ _. usize) yes (λ κs x f. refl), (goes-none 𝓤 H A W 2 (λ _. usize) yes (λ κs x f. refl), (goes-gave-ref 𝓤 H A W 2 1 tt (plain (λ _. T.the-row)), tt)))))
 
@@ -109,7 +100,7 @@ pub +drop-block+drop-operation+drop-region-spec : {M : Type 1} → statement M
 unfolding code.drop-block-routine code.drop-operation-routine code.drop-region-routine tablesOf
 +drop-block+drop-operation+drop-region-spec 𝓤 H 𝓜 𝓖 𝓡 =
     all-meet 𝓤 H (𝓖 .A) (givenOf 𝓤 H 𝓜 𝓖) (tablesOf 𝓤 H 𝓜 (tables 𝓤 H 𝓜 𝓡 code.env))
-    (cited 𝓤 H (Asking 𝓤 H (𝓖 .A) Well (λ l f k. k < ncOf l (famOf f)) (λ l f k m r. FirstIs l (famOf f) k m r)) 𝓜 𝓡 code.env first-of.name first-of.routine code.calls-context·first-of (first-thm.met 𝓤 H 𝓜 𝓖 𝓡))
-    (cited 𝓤 H (Asking 𝓤 H (𝓖 .A) Well (λ l f n. n < nnOf l (famOf f)) (λ l f n m r. NextIs l (famOf f) n m r)) 𝓜 𝓡 code.env next-of.name next-of.routine code.calls-context·next-of (next-thm.met 𝓤 H 𝓜 𝓖 𝓡))
+    (cited 𝓤 H (FirstOf 𝓤 H (𝓖 .A)) 𝓜 𝓡 code.env first-of.name first-of.routine code.calls-context·first-of (first-thm.met 𝓤 H 𝓜 𝓖 𝓡))
+    (cited 𝓤 H (NextOf 𝓤 H (𝓖 .A)) 𝓜 𝓡 code.env next-of.name next-of.routine code.calls-context·next-of (next-thm.met 𝓤 H 𝓜 𝓖 𝓡))
     (cited 𝓤 H (Ends 𝓤 H (𝓖 .A)) 𝓜 𝓡 code.env drop-own.name drop-own.routine code.calls-walk·drop-own (own-thm.met 𝓤 H 𝓜 𝓖 𝓡))
     (code.drop-block-unfolded 𝓤 H 𝓜 𝓡) (code.drop-operation-unfolded 𝓤 H 𝓜 𝓡) (code.drop-region-unfolded 𝓤 H 𝓜 𝓡)

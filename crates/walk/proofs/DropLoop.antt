@@ -1,5 +1,5 @@
 -- The loop of the walk's functions over what lies directly in a thing, as their MIR has it: one proof for operation, region and block. The store stands in cells and the tally
--- in its place, and both are lent for each call. `e` is the first of the locals that the compiler made for it; the parameters, the number left and the code are the same locals in all three. Assumes `Given`.
+-- in its place; the store is lent for each call, and the tally with it where the walk goes on. `e` is the first of the locals that the compiler made for it; the parameters, the number left and the code are the same locals in all three. Assumes `Given`.
 use mathlib.Core.Path.{_≡_, refl, sym, ap, subst, _∙_}
 use mathlib.Core.Bool.{Bool, true, false, not}
 use mathlib.Core.List.{[], _∷_, List}

@@ -1,13 +1,18 @@
 -- The edit of a record by its kind and its fields. Assumes nothing.
 use mathlib.Core.Path.{_≡_, refl, sym, ap, _∙_, subst}
 use mathlib.Core.List.{List}
-use Prim.Native.Nat.{ℕ}
+use native.Mathlib.Omega.{arith}
+use Prim.Native.Nat.{ℕ, zero, suc, _+_, _≤_}
 use lib.ListN.{getD}
-use Rattle.edit.specs.Record.{Edit}
+use Rattle.edit.specs.Record.{Edit, drop-uses, verdict}
 use Rattle.edit.specs.Taken.{edit-of}
 use Rattle.edit.specs.declared.Answer.{Answer}
+use Rattle.edit.proofs.ByKind.{kinds}
+use Rattle.places.specs.Hist.{thing-named}
 use Rattle.context.specs.declared.Layout.{Layout}
+use Rattle.context.specs.Layout.{kindOf}
 use Rattle.context.specs.Performed.{Performed}
+use Rattle.walk.specs.Erase.{eraseBy}
 
 module _ {l : Layout} {m m′ : List ℕ} {r : Answer} (fs : List ℕ) where
   -- the edit that was carried out on a, b and c is the record's: k is its kind, and they are its first fields
@@ -25,3 +30,22 @@ module _ {l : Layout} {m m′ : List ℕ} {r : Answer} (fs : List ℕ) where
 
   pub by-kind : (k n : ℕ) → n ≡ k → Performed l (edit-of k fs) m m′ r → Performed l (edit-of n fs) m m′ r
   by-kind k n e P = subst (λ (i : ℕ). Performed l (edit-of i fs) m m′ r) (sym e) P
+
+-- the kinds on an operation, a block or a region: the code counts from the first of them
+module _ (fs : List ℕ) where
+  pub drop-by : (k : ℕ) → k ≤ 2 → edit-of (36 + k) fs ≡ drop-uses (thing-named (kindOf k) (getD fs 0 0))
+  drop-by zero h = kinds fs .operation-drop
+  drop-by (suc zero) h = kinds fs .block-drop
+  drop-by (suc (suc zero)) h = kinds fs .region-drop
+  drop-by (suc (suc (suc k))) h = absurd (omega arith)
+
+  pub erase-by : (k : ℕ) → k ≤ 1 → edit-of (39 + k) fs ≡ eraseBy k (getD fs 0 0)
+  erase-by zero h = kinds fs .operation-erase
+  erase-by (suc zero) h = kinds fs .block-erase
+  erase-by (suc (suc k)) h = absurd (omega arith)
+
+  pub verdict-by : (k : ℕ) → k ≤ 2 → edit-of (42 + k) fs ≡ verdict (thing-named (kindOf k) (getD fs 0 0))
+  verdict-by zero h = kinds fs .operation-verdict
+  verdict-by (suc zero) h = kinds fs .block-verdict
+  verdict-by (suc (suc zero)) h = kinds fs .region-verdict
+  verdict-by (suc (suc (suc k))) h = absurd (omega arith)

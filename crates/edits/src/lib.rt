@@ -123,13 +123,7 @@ fn drop_edit(m: &mut [u32], l: Layout, rec: &[u8], kind: u32) -> Answer
     ensures { λ r. ⌜ Performed l (edit-of kind (fields-of (now (rec .entry)))) (now (m .entry)) (now (m .exit)) r ⌝ }
 {
     let a = edit::field(rec, 0);
-    if kind == 36 {
-        return walk::drop_operation_uses(m, l, a);
-    }
-    if kind == 37 {
-        return walk::drop_block_uses(m, l, a);
-    }
-    walk::drop_region_uses(m, l, a)
+    walk::drop_uses(m, l, (kind - 36) as usize, a)
 }
 
 // Kinds 42 to 44: the verdict on an operation, a block or a region.
@@ -139,13 +133,7 @@ fn verdict_edit(m: &[u32], l: Layout, rec: &[u8], kind: u32) -> Answer
     ensures { λ r. ⌜ Performed l (edit-of kind (fields-of (now (rec .entry)))) (now (m .entry)) (now (m .entry)) r ⌝ }
 {
     let a = edit::field(rec, 0);
-    if kind == 42 {
-        return walk::operation_verdict(m, l, a);
-    }
-    if kind == 43 {
-        return walk::block_verdict(m, l, a);
-    }
-    walk::region_verdict(m, l, a)
+    walk::verdict(m, l, (kind - 42) as usize, a)
 }
 
 // Kinds 39 to 41: an operation, a block or a region is erased.
@@ -157,11 +145,8 @@ fn erase_edit(m: &mut [u32], scratch: &mut [u32], l: Layout, rec: &[u8], kind: u
 {
     let a = edit::field(rec, 0);
     let b = edit::field(rec, 1);
-    if kind == 39 {
-        return walk::erase_operation(m, l, scratch, a);
-    }
-    if kind == 40 {
-        return walk::erase_block(m, l, scratch, a);
+    if kind <= 40 {
+        return walk::erase(m, l, scratch, (kind - 39) as usize, a);
     }
     walk::erase_region(m, l, scratch, a, b as usize)
 }

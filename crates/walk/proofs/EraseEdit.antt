@@ -10,12 +10,12 @@ use Rattle.seqs.specs.Seqs.{In, sum}
 use Rattle.places.specs.Store.{op, blk, reg, usg, results, arguments, regions, ops, regs, Thing, Thing-dec, State, alive, Live, Sound}
 use Rattle.places.specs.Parts.{rowsOf}
 use Rattle.places.specs.View.{num}
-use Rattle.places.specs.Hist.{meaning}
+use Rattle.places.specs.Hist.{meaning, thing-named}
 use Rattle.places.specs.Alias.{RState}
 use Rattle.places.specs.Settled.{Settles}
 use Rattle.places.specs.Walk.{pick, gather, cutBy, cutAll, among, kids, walkBy, walk, valuesAt, dropList, dropped, innards, erased, strays, straysIn}
 use Rattle.edit.specs.Record.{Edit, erase-operation, erase-block, erase-region}
-use Rattle.edit.specs.Answer.{found, numbers-of}
+use Rattle.edit.specs.Answer.{found}
 use Rattle.edit.specs.declared.Answer.{Answer}
 use Rattle.edit.specs.declared.Answer.the-variants.{Accepted, Refused}
 use Rattle.rules.specs.State.{accept}
@@ -37,13 +37,14 @@ use Rattle.context.specs.declared.Layout.{Layout}
 use Rattle.context.specs.Layout.{kindOf}
 use Rattle.context.specs.Memory.{stateOf, SoundStore, LengthIs}
 use Rattle.context.specs.Reading.{NthIs}
-use Rattle.context.specs.Performed.{abs, Performed}
+use Rattle.context.specs.Performed.{Performed}
+use Rattle.context.proofs.Performing.{refuses, accepts}
 use Rattle.walk.specs.declared.Tally.{Tally}
 use Rattle.walk.specs.Drop.{Tallied}
 use Rattle.walk.specs.Tests.{within, eraseCode, Tested, Testable}
-use Rattle.walk.specs.Erase.{CanErase, Erased, EraseDone, EraseAnswer}
+use Rattle.walk.specs.Erase.{CanErase, Erased, EraseDone, EraseAnswer, eraseBy}
 use Rattle.walk.proofs.Nested.{operations-are}
-use Rattle.walk.proofs.Asked.{accepted, refused, passes}
+use Rattle.walk.proofs.Asked.{passes}
 use Rattle.walk.proofs.EraseLaws.{from-free}
 use Rattle.walk.proofs.EraseWalk.{code≤}
 
@@ -88,17 +89,16 @@ no-strays (suc a) b e = absurd (omega (arith, e))
 
 -- ---- refused or done
 
-done-performed : (l : Layout) (m m′ : List ℕ) (e : Edit) (x : Thing) (r : Answer) → refusal-of (abs l m) e ≡ 0 → EraseDone l x m m′ r
+done-performed : (l : Layout) (m m′ : List ℕ) (e : Edit) (x : Thing) (r : Answer) → refusal-of (meaning (stateOf l m)) e ≡ 0 → EraseDone l x m m′ r
     → meaning (erased (stateOf l m) x) ≡ accept e (meaning (stateOf l m))
     → answer e (meaning (stateOf l m)) (meaning (erased (stateOf l m) x) .history) ≡ found (length (opsOf (walk (stateOf l m) x))) (length (dropList (stateOf l m) x))
     → Performed l e m m′ r
-unfolding abs numbers-of
 done-performed l m m′ e x r asked E after reply =
-    accepted e r (E .store) asked (E .rest) (settles-erased (stateOf l m) x (E .state)) (done-meaning (stateOf l m) x (E .state) ∙ after)
-    (ap (λ (s : RState). answer e (meaning (stateOf l m)) (s .history)) (done-meaning (stateOf l m) x (E .state))
+    subst (Performed l e m m′) (sym (E .reply))
+    (accepts e (E .store) asked (done-meaning (stateOf l m) x (E .state) ∙ after) (E .rest) (settles-erased (stateOf l m) x (E .state)) _ _
+    (ap (λ (s : RState). answer e (meaning (stateOf l m)) (s .history)) (sym after)
     ∙ reply
-    ∙ ap (λ (n : ℕ). found n (length (dropList (stateOf l m) x))) (sym (operations-are (stateOf l m) x))
-    ∙ sym (ap numbers-of (E .reply)))
+    ∙ ap (λ (n : ℕ). found n (length (dropList (stateOf l m) x))) (sym (operations-are (stateOf l m) x))))
 
 module _ {l : Layout} {m m′ : List ℕ} (S : SoundStore l m) (e : Edit) (x : Thing) (n : ℕ) (r : Answer) (D : EraseAnswer l x n m m′ r) where
   abbrev P : State
@@ -107,7 +107,7 @@ module _ {l : Layout} {m m′ : List ℕ} (S : SoundStore l m) (e : Edit) (x : T
   abbrev mk : ℕ → ℕ
   mk = D .marks
 
-  pub answered : refusal-of (abs l m) e ≡ eraseCode P mk n x
+  pub answered : refusal-of (meaning P) e ≡ eraseCode P mk n x
       → (straysIn P mk x ≡ 0 → meaning (erased P x) ≡ accept e (meaning P))
       → (straysIn P mk x ≡ 0 → answer e (meaning P) (meaning (erased P x) .history) ≡ found (length (opsOf (walk P x))) (length (dropList P x)))
       → Performed l e m m′ r
@@ -120,15 +120,22 @@ module _ {l : Layout} {m m′ : List ℕ} (S : SoundStore l m) (e : Edit) (x : T
       go zero z = finish z (D .done z)
       go (suc c) z =
           subst (λ (t : List ℕ). Performed l e m t r) (sym (D .kept c z .0))
-          (subst (λ (a : Answer). Performed l e m m a) (sym (D .kept c z .1)) (refused S e c (asked ∙ z)))
+          (subst (λ (a : Answer). Performed l e m m a) (sym (D .kept c z .1)) (refuses e S (suc c) (asked ∙ z) (λ q. omega (arith, q))))
+
+-- the name in an edit that erases an operation or a block
+pub names-one : (k n : ℕ) → k ≤ 1 → named (eraseBy k n) ≡ R.thing-named (thing-named (kindOf k) n) ∷ []
+unfolding named R.thing-named
+names-one zero n h = refl
+names-one (suc zero) n h = refl
+names-one (suc (suc k)) n h = absurd (omega arith)
 
 module _ {l : Layout} {m : List ℕ} (S : SoundStore l m) where
   abbrev Q : State
   Q = stateOf l m
 
   -- 39
-  pub did-erase-op : (m′ : List ℕ) (r : Answer) (o n : ℕ) → Live Q (op, o) → num Q (op, o) ≡ n → EraseAnswer l (op, o) 1 m m′ r → Performed l (erase-operation n) m m′ r
-  unfolding abs meaning named R.thing-named kindCode
+  did-erase-op : (m′ : List ℕ) (r : Answer) (o n : ℕ) → Live Q (op, o) → num Q (op, o) ≡ n → EraseAnswer l (op, o) 1 m m′ r → Performed l (erase-operation n) m m′ r
+  unfolding meaning named R.thing-named kindCode
   did-erase-op m′ r o n v q D =
       subst (λ (i : ℕ). Performed l (erase-operation i) m m′ r) q
       (answered S (erase-operation (num Q (op, o))) (op, o) 1 r D
@@ -137,8 +144,8 @@ module _ {l : Layout} {m : List ℕ} (S : SoundStore l m) where
       (λ z. erase-op-reply (S .sound) (D .marks) o v (D .right) z))
 
   -- 40
-  pub did-erase-block : (m′ : List ℕ) (r : Answer) (b n : ℕ) → Live Q (blk, b) → num Q (blk, b) ≡ n → EraseAnswer l (blk, b) 2 m m′ r → Performed l (erase-block n) m m′ r
-  unfolding abs meaning named R.thing-named kindCode
+  did-erase-block : (m′ : List ℕ) (r : Answer) (b n : ℕ) → Live Q (blk, b) → num Q (blk, b) ≡ n → EraseAnswer l (blk, b) 2 m m′ r → Performed l (erase-block n) m m′ r
+  unfolding meaning named R.thing-named kindCode
   did-erase-block m′ r b n v q D =
       subst (λ (i : ℕ). Performed l (erase-block i) m m′ r) q
       (answered S (erase-block (num Q (blk, b))) (blk, b) 2 r D
@@ -146,13 +153,19 @@ module _ {l : Layout} {m : List ℕ} (S : SoundStore l m) where
       (λ z. erase-block-meaning (S .sound) (D .marks) b v (D .right) z)
       (λ z. erase-block-reply (S .sound) (D .marks) b v (D .right) z))
 
+  -- 39 and 40, by the code of the kind
+  pub did-erase : (m′ : List ℕ) (r : Answer) (k p n : ℕ) → k ≤ 1 → Live Q (kindOf k, p) × (num Q (kindOf k, p) ≡ n) → EraseAnswer l (kindOf k, p) (k + 1) m m′ r → Performed l (eraseBy k n) m m′ r
+  did-erase m′ r zero p n h v D = did-erase-op m′ r p n (v .0) (v .1) D
+  did-erase m′ r (suc zero) p n h v D = did-erase-block m′ r p n (v .0) (v .1) D
+  did-erase m′ r (suc (suc k)) p n h v D = absurd (omega arith)
+
   -- 41
   module _ (o n i : ℕ) (v : Live Q (op, o)) (q : num Q (op, o) ≡ n) where
     pub no-index : (k : ℕ) → LengthIs l regs o m k → k ≤ i → Performed l (erase-region n i) m m (Refused 12)
-    unfolding abs meaning named R.thing-named kindCode rowsOf
+    unfolding meaning named R.thing-named kindCode rowsOf
     no-index k L h =
         subst (λ (k : ℕ). Performed l (erase-region k i) m m (Refused 12)) q
-        (refused S (erase-region (num Q (op, o)) i) 11 (passes S (erase-region (num Q (op, o)) i) (op, o) (num Q (op, o)) (omega arith) v refl refl ∙ refuse-index (S .sound) _ (λ _. 0) o i v (omega (arith, h, L .is))))
+        (refuses (erase-region (num Q (op, o)) i) S 12 (passes S (erase-region (num Q (op, o)) i) (op, o) (num Q (op, o)) (omega arith) v refl refl ∙ refuse-index (S .sound) _ (λ _. 0) o i v (omega (arith, h, L .is))) (λ q. omega (arith, q)))
 
     other-default : {A : Type 0} (t : List A) (i : ℕ) (a b : A) → i < length t → getD t i a ≡ getD t i b
     other-default [] i a b h = absurd (omega arith)
@@ -163,7 +176,7 @@ module _ {l : Layout} {m : List ℕ} (S : SoundStore l m) where
     region-live p N = S .sound .linked .link (reg, p) regs _ (N .own) .live
 
     pub did-erase-region : (m′ : List ℕ) (r : Answer) (k p : ℕ) → LengthIs l regs o m k → i < k → NthIs l regs o i m p → EraseAnswer l (reg, p) 0 m m′ r → Performed l (erase-region n i) m m′ r
-    unfolding abs meaning named R.thing-named kindCode rowsOf
+    unfolding meaning named R.thing-named kindCode rowsOf
     did-erase-region m′ r k p L b N D =
         let h : i < length (Q .list (op, o) regions) = omega (arith, b, L .is) in
         let at : getD (Q .list (op, o) regions) i (reg, p) ≡ (reg, p) = other-default (Q .list (op, o) regions) i (reg, p) (reg, 0) h ∙ N .is in

@@ -27,9 +27,14 @@ use Rattle.places.proofs.RuleTables.{flags-cut, types-cut}
 use Rattle.places.proofs.VerdictWalk.{verdictAt}
 use Rattle.places.proofs.TopRefusals.{verdict-refusal, verdict-answer}
 use Rattle.context.specs.declared.Layout.{Layout}
-use Rattle.context.specs.Memory.{stateOf, SoundStore}
-use Rattle.context.specs.Performed.{abs, Performed}
-use Rattle.walk.proofs.Asked.{accepted, refused, passes}
+use Rattle.context.specs.Layout.{kindOf}
+use Rattle.context.specs.Memory.{stateOf, SoundStore, Finds}
+use Rattle.context.specs.Performed.{Performed}
+use Rattle.context.proofs.Performing.{refuses, accepts}
+use Rattle.bits.specs.declared.Found.{Found}
+use Rattle.bits.specs.declared.Found.the-variants.{At}
+use Rattle.walk.proofs.Asked.{passes, live-at}
+use Rattle.walk.proofs.EraseWalk.{code≤}
 
 plus-zeros : (f : Five) → plus f zeros ≡ f
 unfolding plus zeros
@@ -79,23 +84,37 @@ module _ {l : Layout} {m : List ℕ} (S : SoundStore l m) where
     abbrev v : Edit
     v = verdict (theThing P x)
 
-    asked : refusal-of (abs l m) v ≡ verdictAt P (length (P .tab op .order)) x .refusal
-    unfolding abs meaning named
+    asked : refusal-of (meaning P) v ≡ verdictAt P (length (P .tab op .order)) x .refusal
+    unfolding meaning named
     asked = passes S v x (num P x) kx lx refl refl ∙ verdict-refusal (S .sound) _ (λ _. 0) x lx kx
 
-    after : abs l m ≡ accept v (abs l m)
-    unfolding abs meaning
+    after : meaning P ≡ accept v (meaning P)
+    unfolding meaning
     after = verdict-accept (S .sound) _ (theThing P x)
 
-    replied : answer v (abs l m) (abs l m .history) ≡ verdictAt P (length (P .tab op .order)) x
-    unfolding abs meaning
-    replied = verdict-answer (S .sound) _ (λ _. 0) x lx kx (abs l m .history)
+    replied : (h : History) → answer v (meaning P) h ≡ verdictAt P (length (P .tab op .order)) x
+    unfolding meaning
+    replied = verdict-answer (S .sound) _ (λ _. 0) x lx kx
+
+    accepted : (a b : ℕ) → found a b ≡ verdictAt P (length (P .tab op .order)) x → Performed l v m m (Accepted a b)
+    unfolding found
+    accepted a b e = accepts v S (asked ∙ ap (λ (q : Reply). q .refusal) (sym e)) after refl (settles-same (λ k. refl)) a b (replied _ ∙ sym e)
 
     judged : (r : Answer) → numbers-of r ≡ verdictAt P (length (P .tab op .order)) x → Performed l v m m r
     unfolding numbers-of found refuse
-    judged (Accepted a b) e = accepted v (Accepted a b) S (asked ∙ ap (λ (q : Reply). q .refusal) (sym e)) refl (settles-same (λ k. refl)) after (replied ∙ sym e)
-    judged (Refused zero) e = accepted v (Refused zero) S (asked ∙ ap (λ (q : Reply). q .refusal) (sym e)) refl (settles-same (λ k. refl)) after (replied ∙ sym e)
-    judged (Refused (suc n)) e = refused S v n (asked ∙ ap (λ (q : Reply). q .refusal) (sym e))
+    judged (Accepted a b) e = accepted a b e
+    judged (Refused zero) e = let c : Performed l v m m (Accepted 0 0) = accepted 0 0 e in record { sound = c .sound; reply = c .reply; state = c .state; places = c .places; kept = c .kept; rest = c .rest }
+    judged (Refused (suc n)) e = refuses v S (suc n) (asked ∙ ap (λ (q : Reply). q .refusal) (sym e)) (λ q. omega (arith, q))
 
-    pub did-judge : (n : ℕ) (r : Answer) → num P x ≡ n → numbers-of r ≡ verdictAt P (length (P .tab op .order)) x → Performed l (verdict (thing-named (x .0) n)) m m r
+    did-judge : (n : ℕ) (r : Answer) → num P x ≡ n → numbers-of r ≡ verdictAt P (length (P .tab op .order)) x → Performed l (verdict (thing-named (x .0) n)) m m r
     did-judge n r q e = subst (λ (i : ℕ). Performed l (verdict (thing-named (x .0) i)) m m r) q (judged r e)
+
+  -- the thing that the look-up found, where its code is j
+  module _ (k n p j : ℕ) (h : k ≤ 2) {a : Found} (F : Finds P (kindOf k) n a) (e : a ≡ At p) (is-j : k ≡ j) where
+    pub may-judge : SoundStore l m × Live P (kindOf j, p)
+    may-judge = (S, subst (λ (i : ℕ). Live P (kindOf i, p)) is-j (live-at P (kindOf k) n p F e .0))
+
+    pub judged-by : (r : Answer) → numbers-of r ≡ verdictAt P (length (P .tab op .order)) (kindOf j, p) → Performed l (verdict (thing-named (kindOf k) n)) m m r
+    judged-by r w =
+        did-judge (kindOf k, p) (code≤ k h) (live-at P (kindOf k) n p F e .0) n r (live-at P (kindOf k) n p F e .1)
+        (subst (λ (i : ℕ). numbers-of r ≡ verdictAt P (length (P .tab op .order)) (kindOf i, p)) (sym is-j) w)

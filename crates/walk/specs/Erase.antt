@@ -7,6 +7,7 @@ use lib.ListN.{length}
 use Rattle.seqs.specs.Seqs.{In}
 use Rattle.places.specs.Store.{op, Role, vals, Thing, Thing-dec, Con, Con-dec, State, Live}
 use Rattle.places.specs.Walk.{sgn, cutAll, walk, usesAt, valuesAt, defSets, dropList, dropped, innards}
+use Rattle.edit.specs.Record.{Edit, erase-operation, erase-block}
 use Rattle.edit.specs.declared.Answer.{Answer}
 use Rattle.edit.specs.declared.Answer.the-variants.{Accepted, Refused}
 use Rattle.context.specs.declared.Layout.{Layout}
@@ -56,6 +57,11 @@ abbrev pub innerCode : ℕ → ℕ
 innerCode zero = 2
 innerCode (suc zero) = 0
 innerCode (suc (suc k)) = 1
+
+-- the edit that erases an operation or a block, by the code of the kind
+abbrev pub eraseBy : ℕ → ℕ → Edit
+eraseBy zero n = erase-operation n
+eraseBy (suc k) n = erase-block n
 
 -- ---- the edit, once the thing is found
 

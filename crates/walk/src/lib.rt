@@ -6,13 +6,14 @@ use edit::Answer;
 ghost use mathlib.Core.Path.{_≡_};
 ghost use mathlib.Core.Bool.{_||_};
 ghost use Rattle.places.specs.Store.{op, blk, reg, usg, useSets, vals, Live, up};
+ghost use Rattle.places.specs.Hist.{thing-named};
 ghost use Rattle.places.specs.Verdict.{terminates, lackable, endsWell, namesBlock, leadsTo, lostPred, tooEarly};
 ghost use Rattle.rules.specs.Table.{any, some-and};
 ghost use Rattle.rules.specs.Verdict.{is-clean};
 ghost use Rattle.edit.specs.Answer.{numbers-of};
 ghost use Rattle.context.specs.Memory.{con, stateOf, SoundStore};
 ghost use Rattle.context.specs.Performed.{Performed};
-ghost use Rattle.edit.specs.Record.{the-operation, the-block, the-region, drop-uses, erase-operation, erase-block, erase-region, verdict};
+ghost use Rattle.edit.specs.Record.{drop-uses, erase-region, verdict};
 ghost use Rattle.walk.specs.Drop.{walked, CanDrop, Dropped, zeros, CanOwn, OwnTallied, Tallied};
 ghost use Rattle.walk.specs.Judge.{userLeads, BlockAlone, OpJudged, BlockJudged, RegionJudged};
 ghost use Prim.Native.Nat.{_≤_, _<_};
@@ -20,7 +21,7 @@ ghost use lib.ListN.{length};
 ghost use Rattle.context.specs.Layout.{kindOf, ncOf};
 ghost use Rattle.context.specs.Reading.{listOf};
 ghost use Rattle.walk.specs.Tests.{within, alone, DepthIs, Testable, Given, stray, straySet, strayValue, strayThing, marksIn, eraseCode, Zeros, Tested, Scratch};
-ghost use Rattle.walk.specs.Erase.{CanErase, Erased, CanEndValues, EndedValues, OwnEnded, innerCode, EraseAnswer};
+ghost use Rattle.walk.specs.Erase.{CanErase, Erased, CanEndValues, EndedValues, OwnEnded, innerCode, EraseAnswer, eraseBy};
 ghost use Rattle.context.specs.Steps.{CanEnd, Ended};
 
 // What a walk over the nest counts: operations freed and uses ended.
@@ -121,42 +122,17 @@ fn drop_tallied(m: &mut [u32], l: Layout, k: usize, p: usize) -> Tally
     drop_lent(m, l, k, p, n)
 }
 
-// Edit 36: all uses in the operation with this number end.
-pub fn drop_operation_uses(m: &mut [u32], l: Layout, number: u32) -> Answer
+// Edits 36, 37, 38: all uses in the thing of the kind `k` with this number end. Refused: 7, 8, 9 by the kind.
+pub fn drop_uses(m: &mut [u32], l: Layout, k: usize, number: u32) -> Answer
     requires { ⌜ SoundStore l (now m) ⌝ }
-    ensures { λ r. ⌜ Performed l (drop-uses (the-operation number)) (now (m .entry)) (now (m .exit)) r ⌝ }
+    requires { ⌜ k ≤ 2 ⌝ }
+    ensures { λ r. ⌜ Performed l (drop-uses (thing-named (kindOf k) number)) (now (m .entry)) (now (m .exit)) r ⌝ }
 {
-    let f = context::find(m, l, 0, number);
-    let Found::At(o) = f else {
-        return Answer::Refused(7);
-    };
-    let t = drop_tallied(m, l, 0, o);
-    Answer::Accepted(0, t.ended)
-}
-
-// Edit 37: all uses in the block with this number end.
-pub fn drop_block_uses(m: &mut [u32], l: Layout, number: u32) -> Answer
-    requires { ⌜ SoundStore l (now m) ⌝ }
-    ensures { λ r. ⌜ Performed l (drop-uses (the-block number)) (now (m .entry)) (now (m .exit)) r ⌝ }
-{
-    let f = context::find(m, l, 1, number);
-    let Found::At(b) = f else {
-        return Answer::Refused(8);
-    };
-    let t = drop_tallied(m, l, 1, b);
-    Answer::Accepted(0, t.ended)
-}
-
-// Edit 38: all uses in the region with this number end.
-pub fn drop_region_uses(m: &mut [u32], l: Layout, number: u32) -> Answer
-    requires { ⌜ SoundStore l (now m) ⌝ }
-    ensures { λ r. ⌜ Performed l (drop-uses (the-region number)) (now (m .entry)) (now (m .exit)) r ⌝ }
-{
-    let f = context::find(m, l, 2, number);
+    let f = context::find(m, l, k, number);
     let Found::At(p) = f else {
-        return Answer::Refused(9);
+        return Answer::Refused(7 + k as u32);
     };
-    let t = drop_tallied(m, l, 2, p);
+    let t = drop_tallied(m, l, k, p);
     Answer::Accepted(0, t.ended)
 }
 
@@ -372,39 +348,22 @@ pub fn verify_block(m: &[u32], l: Layout, b: usize) -> Answer
     Answer::Accepted(0, 0)
 }
 
-// Edit 42: the verdict on the operation with this number.
-pub fn operation_verdict(m: &[u32], l: Layout, number: u32) -> Answer
+// Edits 42, 43, 44: the verdict on the thing of the kind `k` with this number. Refused: 7, 8, 9 by the kind.
+pub fn verdict(m: &[u32], l: Layout, k: usize, number: u32) -> Answer
     requires { ⌜ SoundStore l (now m) ⌝ }
-    ensures { λ r. ⌜ Performed l (verdict (the-operation number)) (now (m .entry)) (now (m .entry)) r ⌝ }
+    requires { ⌜ k ≤ 2 ⌝ }
+    ensures { λ r. ⌜ Performed l (verdict (thing-named (kindOf k) number)) (now (m .entry)) (now (m .entry)) r ⌝ }
 {
-    let f = context::find(m, l, 0, number);
-    let Found::At(o) = f else {
-        return Answer::Refused(7);
-    };
-    verify_operation(m, l, o)
-}
-
-// Edit 43: the verdict on the block with this number.
-pub fn block_verdict(m: &[u32], l: Layout, number: u32) -> Answer
-    requires { ⌜ SoundStore l (now m) ⌝ }
-    ensures { λ r. ⌜ Performed l (verdict (the-block number)) (now (m .entry)) (now (m .entry)) r ⌝ }
-{
-    let f = context::find(m, l, 1, number);
-    let Found::At(b) = f else {
-        return Answer::Refused(8);
-    };
-    verify_block(m, l, b)
-}
-
-// Edit 44: the verdict on the region with this number.
-pub fn region_verdict(m: &[u32], l: Layout, number: u32) -> Answer
-    requires { ⌜ SoundStore l (now m) ⌝ }
-    ensures { λ r. ⌜ Performed l (verdict (the-region number)) (now (m .entry)) (now (m .entry)) r ⌝ }
-{
-    let f = context::find(m, l, 2, number);
+    let f = context::find(m, l, k, number);
     let Found::At(p) = f else {
-        return Answer::Refused(9);
+        return Answer::Refused(7 + k as u32);
     };
+    if k == 0 {
+        return verify_operation(m, l, p);
+    }
+    if k == 1 {
+        return verify_block(m, l, p);
+    }
     verify_region(m, l, p)
 }
 
@@ -651,32 +610,20 @@ fn erase_found(m: &mut [u32], l: Layout, s: &mut [u32], k: usize, p: usize, n: u
     Answer::Accepted(t.freed, t.ended)
 }
 
-// Edit 39: the operation with this number is erased. Refused: 7, 13, 14. The scratch is lent with zeros, and has zeros again.
-pub fn erase_operation(m: &mut [u32], l: Layout, s: &mut [u32], number: u32) -> Answer
+// Edits 39 and 40: the operation or block (`k` 0 or 1) with this number is erased. Refused: 7 or 8 by the kind, 13, 14.
+// The scratch is lent with zeros, and has zeros again.
+pub fn erase(m: &mut [u32], l: Layout, s: &mut [u32], k: usize, number: u32) -> Answer
     requires { ⌜ SoundStore l (now m) ⌝ }
+    requires { ⌜ k ≤ 1 ⌝ }
     requires { ⌜ Scratch l (now s) ⌝ }
-    ensures { λ r. ⌜ Performed l (erase-operation number) (now (m .entry)) (now (m .exit)) r ⌝ }
+    ensures { λ r. ⌜ Performed l (eraseBy k number) (now (m .entry)) (now (m .exit)) r ⌝ }
     ensures { λ _. ⌜ Scratch l (now (s .exit)) ⌝ }
 {
-    let f = context::find(m, l, 0, number);
-    let Found::At(o) = f else {
-        return Answer::Refused(7);
+    let f = context::find(m, l, k, number);
+    let Found::At(p) = f else {
+        return Answer::Refused(7 + k as u32);
     };
-    erase_found(m, l, s, 0, o, 1)
-}
-
-// Edit 40: the block with this number is erased. Refused: 8, 13, 14.
-pub fn erase_block(m: &mut [u32], l: Layout, s: &mut [u32], number: u32) -> Answer
-    requires { ⌜ SoundStore l (now m) ⌝ }
-    requires { ⌜ Scratch l (now s) ⌝ }
-    ensures { λ r. ⌜ Performed l (erase-block number) (now (m .entry)) (now (m .exit)) r ⌝ }
-    ensures { λ _. ⌜ Scratch l (now (s .exit)) ⌝ }
-{
-    let f = context::find(m, l, 1, number);
-    let Found::At(b) = f else {
-        return Answer::Refused(8);
-    };
-    erase_found(m, l, s, 1, b, 2)
+    erase_found(m, l, s, k, p, k + 1)
 }
 
 // Edit 41: the region of the operation with this number, at this index, is erased. Refused: 7, 12, 14.

@@ -1,7 +1,7 @@
-use mathlib.Core.Path.{_≡_, refl, subst}
+use mathlib.Core.Path.{refl}
 use native.Mathlib.Omega.{arith}
-use Prim.Native.Nat.{ℕ, _+_, _-_}
-use Rattle.edit.specs.Taken.{Passed, fields-of}
+use Prim.Native.Nat.{_+_, _-_}
+use Rattle.edit.specs.Taken.{fields-of}
 use Rattle.edits.proofs.ByKind.{by-kind}
 use borrow.Author.Needs.{needs}
 use Rattle.edits.proofs.perform.Statement.{statement}

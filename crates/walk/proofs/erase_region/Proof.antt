@@ -6,7 +6,7 @@ use Rattle.context.proofs.Places.{place<}
 use Rattle.places.specs.Store.{op}
 use Rattle.rules.specs.Refusal.{named}
 use Rattle.rules.specs.Refusal as R
-use Rattle.walk.proofs.Asked.{dead-at, live-at, no-operation}
+use Rattle.walk.proofs.Asked.{live-at, no-thing}
 use Rattle.walk.proofs.EraseEdit.{no-index, region-live, did-erase-region}
 use Rattle.walk.proofs.erase_region.Statement.{statement}
 use Rattle.walk.proofs.erase_region.Tie as tie
@@ -30,11 +30,11 @@ same-length c =
 returns : tie.Need-returns
 unfolding named R.thing-named
 returns c =
-    let s = c .before .before .before .before .before .before in (no-operation (s .pre .0) _ (s .args .number) (dead-at (stateOf (s .args .l) (s .args .m .now)) op (s .args .number) (c .before .before .find .result) (c .before .before .find .ensures) (c .enum-told .given .1)) refl, s .pre .1)
+    let s = c .before .before .before .before .before .before in (no-thing (s .pre .0) _ 0 (s .args .number) (omega arith) (c .before .before .find .ensures) (c .enum-told .given .1) refl, s .pre .1)
 
 row-length-requires : tie.Need-row-length-requires
 row-length-requires c κs =
-    let s = c .before .before .before .before .before .before .before .before in (s .pre .0 .well, place< (s .pre .0) (op, (c .before .before .f .given .0 .0)) (live-at (stateOf (s .args .l) (s .args .m .now)) op (s .args .number) (c .before .before .f .given .0 .0) (c .before .before .before .before .find .result) (c .before .before .before .before .find .ensures) (c .before .before .f .given .1) .0))
+    let s = c .before .before .before .before .before .before .before .before in (s .pre .0 .well, place< (s .pre .0) (op, (c .before .before .f .given .0 .0)) (live-at (stateOf (s .args .l) (s .args .m .now)) op (s .args .number) (c .before .before .f .given .0 .0) (c .before .before .before .before .find .ensures) (c .before .before .f .given .1) .0))
 
 same-length-2 : tie.Need-same-length-2
 same-length-2 c =
@@ -42,15 +42,15 @@ same-length-2 c =
 
 returns-2 : tie.Need-returns-2
 returns-2 c =
-    let s = c .before .before .before .before .before .before .before .before .before .before in (no-index (s .pre .0) (c .before .before .before .before .f .given .0 .0) (s .args .number) (s .args .index) (live-at (stateOf (s .args .l) (s .args .m .now)) op (s .args .number) (c .before .before .before .before .f .given .0 .0) (c .before .before .before .before .before .before .find .result) (c .before .before .before .before .before .before .find .ensures) (c .before .before .before .before .f .given .1) .0) (live-at (stateOf (s .args .l) (s .args .m .now)) op (s .args .number) (c .before .before .before .before .f .given .0 .0) (c .before .before .before .before .before .before .find .result) (c .before .before .before .before .before .before .find .ensures) (c .before .before .before .before .f .given .1) .1) (c .before .row-length .result) (c .before .row-length .ensures) (c .if1 .taken), s .pre .1)
+    let s = c .before .before .before .before .before .before .before .before .before .before in (no-index (s .pre .0) (c .before .before .before .before .f .given .0 .0) (s .args .number) (s .args .index) (live-at (stateOf (s .args .l) (s .args .m .now)) op (s .args .number) (c .before .before .before .before .f .given .0 .0) (c .before .before .before .before .before .before .find .ensures) (c .before .before .before .before .f .given .1) .0) (live-at (stateOf (s .args .l) (s .args .m .now)) op (s .args .number) (c .before .before .before .before .f .given .0 .0) (c .before .before .before .before .before .before .find .ensures) (c .before .before .before .before .f .given .1) .1) (c .before .row-length .result) (c .before .row-length .ensures) (c .if1 .taken), s .pre .1)
 
 nth-of-requires : tie.Need-nth-of-requires
 nth-of-requires c κs =
-    let s = c .before .before .before .before .before .before .before .before .before .before .before in (s .pre .0 .well, (place< (s .pre .0) (op, (c .before .before .before .before .before .f .given .0 .0)) (live-at (stateOf (s .args .l) (s .args .m .now)) op (s .args .number) (c .before .before .before .before .before .f .given .0 .0) (c .before .before .before .before .before .before .before .find .result) (c .before .before .before .before .before .before .before .find .ensures) (c .before .before .before .before .before .f .given .1) .0), omega (arith, c .before .before .row-length .ensures .is, c .before .if1 .left)))
+    let s = c .before .before .before .before .before .before .before .before .before .before .before in (s .pre .0 .well, (place< (s .pre .0) (op, (c .before .before .before .before .before .f .given .0 .0)) (live-at (stateOf (s .args .l) (s .args .m .now)) op (s .args .number) (c .before .before .before .before .before .f .given .0 .0) (c .before .before .before .before .before .before .before .find .ensures) (c .before .before .before .before .before .f .given .1) .0), omega (arith, c .before .before .row-length .ensures .is, c .before .if1 .left)))
 
 erase-found-requires : tie.Need-erase-found-requires
 erase-found-requires c κs =
-    let s = c .before .before .before .before .before .before .before .before .before .before .before .before .before .before in (record { store = s .pre .0; kind = omega arith; live = region-live (s .pre .0) (c .before .before .before .before .before .before .before .before .f .given .0 .0) (s .args .number) (s .args .index) (live-at (stateOf (s .args .l) (s .args .m .now)) op (s .args .number) (c .before .before .before .before .before .before .before .before .f .given .0 .0) (c .before .before .before .before .before .before .before .before .before .before .find .result) (c .before .before .before .before .before .before .before .before .before .before .find .ensures) (c .before .before .before .before .before .before .before .before .f .given .1) .0) (live-at (stateOf (s .args .l) (s .args .m .now)) op (s .args .number) (c .before .before .before .before .before .before .before .before .f .given .0 .0) (c .before .before .before .before .before .before .before .before .before .before .find .result) (c .before .before .before .before .before .before .before .before .before .before .find .ensures) (c .before .before .before .before .before .before .before .before .f .given .1) .1) (c .before .before .nth-of .result) (c .before .before .nth-of .ensures); long = s .pre .1 .long }, s .pre .1 .zeros)
+    let s = c .before .before .before .before .before .before .before .before .before .before .before .before .before .before in (record { store = s .pre .0; kind = omega arith; live = region-live (s .pre .0) (c .before .before .before .before .before .before .before .before .f .given .0 .0) (s .args .number) (s .args .index) (live-at (stateOf (s .args .l) (s .args .m .now)) op (s .args .number) (c .before .before .before .before .before .before .before .before .f .given .0 .0) (c .before .before .before .before .before .before .before .before .before .before .find .ensures) (c .before .before .before .before .before .before .before .before .f .given .1) .0) (live-at (stateOf (s .args .l) (s .args .m .now)) op (s .args .number) (c .before .before .before .before .before .before .before .before .f .given .0 .0) (c .before .before .before .before .before .before .before .before .before .before .find .ensures) (c .before .before .before .before .before .before .before .before .f .given .1) .1) (c .before .before .nth-of .result) (c .before .before .nth-of .ensures); long = s .pre .1 .long }, s .pre .1 .zeros)
 
 same-length-3 : tie.Need-same-length-3
 same-length-3 c =
@@ -62,7 +62,7 @@ same-length-4 c =
 
 returns-3 : tie.Need-returns-3
 returns-3 c =
-    let s = c .before .before .before .before .before .before .before .before .before .before .before .before .before .before .before .before .before .before .before in (did-erase-region (s .pre .0) (c .before .before .before .before .before .before .before .before .before .before .before .before .before .f .given .0 .0) (s .args .number) (s .args .index) (live-at (stateOf (s .args .l) (s .args .m .now)) op (s .args .number) (c .before .before .before .before .before .before .before .before .before .before .before .before .before .f .given .0 .0) (c .before .before .before .before .before .before .before .before .before .before .before .before .before .before .before .find .result) (c .before .before .before .before .before .before .before .before .before .before .before .before .before .before .before .find .ensures) (c .before .before .before .before .before .before .before .before .before .before .before .before .before .f .given .1) .0) (live-at (stateOf (s .args .l) (s .args .m .now)) op (s .args .number) (c .before .before .before .before .before .before .before .before .before .before .before .before .before .f .given .0 .0) (c .before .before .before .before .before .before .before .before .before .before .before .before .before .before .before .find .result) (c .before .before .before .before .before .before .before .before .before .before .before .before .before .before .before .find .ensures) (c .before .before .before .before .before .before .before .before .before .before .before .before .before .f .given .1) .1) _ _ (c .before .before .before .before .before .before .before .before .before .before .row-length .result) (c .before .before .before .before .before .before .before .nth-of .result) (c .before .before .before .before .before .before .before .before .before .before .row-length .ensures) (c .before .before .before .before .before .before .before .before .before .if1 .left) (c .before .before .before .before .before .before .before .nth-of .ensures) (c .before .before .before .before .erase-found .ensures .0), c .before .before .before .before .erase-found .ensures .1)
+    let s = c .before .before .before .before .before .before .before .before .before .before .before .before .before .before .before .before .before .before .before in (did-erase-region (s .pre .0) (c .before .before .before .before .before .before .before .before .before .before .before .before .before .f .given .0 .0) (s .args .number) (s .args .index) (live-at (stateOf (s .args .l) (s .args .m .now)) op (s .args .number) (c .before .before .before .before .before .before .before .before .before .before .before .before .before .f .given .0 .0) (c .before .before .before .before .before .before .before .before .before .before .before .before .before .before .before .find .ensures) (c .before .before .before .before .before .before .before .before .before .before .before .before .before .f .given .1) .0) (live-at (stateOf (s .args .l) (s .args .m .now)) op (s .args .number) (c .before .before .before .before .before .before .before .before .before .before .before .before .before .f .given .0 .0) (c .before .before .before .before .before .before .before .before .before .before .before .before .before .before .before .find .ensures) (c .before .before .before .before .before .before .before .before .before .before .before .before .before .f .given .1) .1) _ _ (c .before .before .before .before .before .before .before .before .before .before .row-length .result) (c .before .before .before .before .before .before .before .nth-of .result) (c .before .before .before .before .before .before .before .before .before .before .row-length .ensures) (c .before .before .before .before .before .before .before .before .before .if1 .left) (c .before .before .before .before .before .before .before .nth-of .ensures) (c .before .before .before .before .erase-found .ensures .0), c .before .before .before .before .erase-found .ensures .1)
 
 pub erase-region-spec : {M : Type 1} → statement M
 erase-region-spec =

@@ -3,16 +3,13 @@
 use mathlib.Core.Path.{_≡_, sym, ap, ap₂, _∙_, subst}
 use mathlib.Core.Logic.{⊎-elim}
 use mathlib.Core.List.{List, _++_}
-use native.Mathlib.Nat.{eq-zero-or-pos}
 use Prim.Native.Nat.{ℕ, _+_, _-_, _^_, _<_}
 use lib.ListN.{length, getD, length-drop, take-append-drop}
 use lib.Seq.{getD-drop}
-use Rattle.bits.specs.Map.{bit}
 use Rattle.bits.proofs.Digits.{le-or-lt, bits-ext}
 use Rattle.table.specs.Table.{next, stamp, sign, live}
 use Rattle.table.proofs.Canon as table
-use Rattle.table.proofs.Live.{stamp-live}
-use Rattle.arena.specs.Packed.{Packed, Alive, front, back, cells}
+use Rattle.arena.specs.Packed.{Packed, front, back, cells}
 
 -- two arenas with the same next number and the same live things are equal, number for number (a slice's numbers have 32 bits)
 pub canonical : (n : ℕ) (m m′ : List ℕ) → Packed n m → Packed n m′ → ((i : ℕ) → getD m i 0 < 2 ^ 32) → ((i : ℕ) → getD m′ i 0 < 2 ^ 32) → next (front n m) ≡ next (front n m′) → live n (front n m) ≡ live n (front n m′) → m ≡ m′
@@ -22,9 +19,3 @@ canonical n m m′ P P′ u u′ eN eL =
     let b : back n m ≡ back n m′ = bits-ext (back n m) (back n m′) long (λ i. subst (λ (x : ℕ). x < 2 ^ 32) (sym (getD-drop (cells n) m i 0)) (u (cells n + i))) (λ i. subst (λ (x : ℕ). x < 2 ^ 32) (sym (getD-drop (cells n) m′ i 0)) (u′ (cells n + i)))
     (λ p. ⊎-elim (λ h. P .spare p h ∙ sym (P′ .spare p h)) (λ h. P .marks p h ∙ ap (λ (x : List ℕ). sign (stamp n x p)) f ∙ sym (P′ .marks p h)) (le-or-lt n p)) in
     sym (take-append-drop (cells n) m) ∙ ap₂ (λ (x y : List ℕ). x ++ y) f b ∙ take-append-drop (cells n) m′
-
--- where nothing lives the stamp and the bit are 0
-pub free-cells : (n : ℕ) (m : List ℕ) → Packed n m → (p : ℕ) → p < n → (Alive n m p → ⊥) → (stamp n (front n m) p ≡ 0) × (bit (back n m) p ≡ 0)
-free-cells n m P p h d =
-    let z : stamp n (front n m) p ≡ 0 = ⊎-elim (λ z. z) (λ u. absurd (d (stamp-live (P .table) p h u))) (eq-zero-or-pos (stamp n (front n m) p)) in
-    (z, P .marks p h ∙ ap sign z)

@@ -6,7 +6,6 @@ pub mod Neighbours
 pub mod Marks
 pub mod Places
 pub mod MovedUse
-pub mod Tables
 pub mod Books
 pub mod UseLaws
 pub mod Tags
@@ -14,7 +13,6 @@ pub mod OpLaws
 pub mod Starting
 pub mod Begun
 pub mod Dropping
-pub mod Judged
 pub mod Sparing
 pub mod Checking
 pub mod ValueLaws

@@ -109,7 +109,7 @@ module _ (l : Layout) (m : List ℕ) (fits : total l ≤ length m) (z : (i : ℕ
   unfolding store
   tags-of a = tags-none a
 
-  pub started-store : Caps l → part l m 0 ≡ l .ops ∷ l .blocks ∷ l .regions ∷ l .values ∷ l .uses ∷ [] → SoundStore l m × (stateOf l m ≡ empty (capOf l))
+  started-store : Caps l → part l m 0 ≡ l .ops ∷ l .blocks ∷ l .regions ∷ l .values ∷ l .uses ∷ [] → SoundStore l m × (stateOf l m ≡ empty (capOf l))
   started-store C h = (
     record {
       well = record { caps = C; fits = fits; head = h; tables = λ k. table-fresh C k .packed; families = λ f. family-fresh f .linked; spare = λ a z. tags-of a };

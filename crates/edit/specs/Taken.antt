@@ -81,8 +81,3 @@ pub record Operation-fields (fs : List ℕ) : Type 0 where
 pub record Block-fields (fs : List ℕ) : Type 0 where
   pub arguments : getD fs 0 0 ≤ 64
   pub full : length fs ≡ 1 + getD fs 0 0
-
--- the fields of kinds 34 and 35 that passed: two, and then at most 256 listed numbers
-pub record Listed-fields (fs : List ℕ) : Type 0 where
-  pub fixed : 2 ≤ length fs
-  pub most : length fs ≤ 258

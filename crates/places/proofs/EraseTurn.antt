@@ -9,12 +9,12 @@ use Prim.Native.Nat.{ℕ, zero, suc, _+_, _<_, _≤_}
 use lib.ListN.{length}
 use Rattle.seqs.specs.Seqs.{tick, count, In, sum}
 use Rattle.places.specs.Store.{val, usg, Role, operands, successors, valueUses, blockUses, results, arguments, regions, ops, blocks, slots, fam, nodeOf, holderOf, Thing, Thing-dec, Con, Con-dec, State, Link, Sound, outer}
-use Rattle.places.specs.Walk.{over, pick, sgn, sift, gather, cutBy, among, cutAll, kids, walk, valuesAt, dropList, dropped, straysIn, innards}
+use Rattle.places.specs.Walk.{over, pick, sift, gather, cutBy, among, cutAll, kids, walk, valuesAt, dropList, dropped, straysIn, innards}
 use Rattle.seqs.proofs.Base.{tick-yes, tick-no, in-tail, count-append}
 use Rattle.places.proofs.Steps.{listed, once}
 use Rattle.places.proofs.Placing.{isUse}
 use Rattle.places.proofs.Climb.{opsOf}
-use Rattle.places.proofs.Cut.{zero-or, sift-all, sift-none, cut-append, cut-same, Closed, cut-sound}
+use Rattle.places.proofs.Cut.{zero-or, sift-all, sift-none, cut-append, Closed, cut-sound}
 use Rattle.places.proofs.Nest.{kindCode, count-gather, walk-self}
 use Rattle.places.proofs.DropAll.{drop-count, drop-uses}
 use Rattle.places.proofs.DropTurn.{append-assoc, append-nil, gather-append, list-none, list-kept, walk-kept}
@@ -170,14 +170,8 @@ module _ {P : State} (S : Sound P) (x : Thing) (kx : kindCode (x .0) ≤ 2) (F :
 
   -- ---- the thing itself
 
-  all-kids : (y : Thing) → In Thing-dec y (kids P x) → In Thing-dec y (kids P x)
-  all-kids y i = i
-
   abbrev Z : State
   Z = cutAll (endedSoFar (kids P x)) P
-
-  pub last-sound : Sound Z
-  last-sound = ended-sound (kids P x) all-kids
 
   -- all its lists are empty
   pub last-bare : (r : Role) → Z .list x r ≡ []
@@ -186,9 +180,3 @@ module _ {P : State} (S : Sound P) (x : Thing) (kx : kindCode (x .0) ≤ 2) (F :
       let at : P .own y (fam r) ≡ some (r, x) = listed (S .linked) y x r i in
       let M : Link P y (fam r) (r, x) = S .linked .link y (fam r) (r, x) at in
       omega (arith, so-far (kids P x) y, total y, innards-closed (S .linked) x kx F y (fam r) (r, x) at (self x), tick-no (Thing-dec y x) (λ p. node≢holder r (ap kindCode (sym (M .node) ∙ ap (λ (t : Thing). t .0) p ∙ M .holder)))))
-
-  -- and with it all inside has ended
-  pub last-cut : cutAll (x ∷ []) Z ≡ cutAll (innards P x) P
-  last-cut =
-      cut-append (endedSoFar (kids P x)) (x ∷ []) P
-      ∙ cut-same (among (endedSoFar (kids P x) ++ (x ∷ []))) (among (innards P x)) P (λ y. let q : among (endedSoFar (kids P x) ++ (x ∷ [])) y ≡ among (innards P x) y = omega (arith, count-append Thing-dec y (endedSoFar (kids P x)) (x ∷ []), so-far (kids P x) y, total y) in ap sgn q)

@@ -266,7 +266,7 @@ module _ (k : Kind) (n : ℕ) (f g : Rec → Rec) (keeps : (e : Rec) → g e .nu
       both e (yes p) = if-pos (ℕ-discrete (g e .num) n) (keeps e ∙ p) (f (g e)) (g e)
       both e (no m) = if-neg (ℕ-discrete (e .num) n) m (f e) e
 
-  pub amend-twice : (N : Names) → amend k n f (amend k n g N) ≡ amend k n (λ e. f (g e)) N
+  amend-twice : (N : Names) → amend k n f (amend k n g N) ≡ amend k n (λ e. f (g e)) N
   unfolding amend
   amend-twice N =
       names-eq (amend k n f (amend k n g N)) (amend k n (λ e. f (g e)) N) (λ j. refl)

@@ -74,7 +74,7 @@ module _ (P : State) (c : Con) (l : List Thing) (x : Thing) (o : Option Con) whe
   unfolding relink setOwn setList alive
   alive-relink y = refl
 
-  pub link-relink : {y : Thing} {f : Fam} {b : Con} → Link P y f b → Link (relink c l x o P) y f b
+  link-relink : {y : Thing} {f : Fam} {b : Con} → Link P y f b → Link (relink c l x o P) y f b
   unfolding relink setOwn setList alive
   link-relink L = record { family = L .family; node = L .node; holder = L .holder; live = L .live; home = L .home }
 
@@ -117,7 +117,7 @@ module _ {P : State} (S : Linked P) (c : Con) (l : List Thing) (x : Thing) (o : 
       (λ h. ends-same (λ z. by-cases (Thing-dec z x) (λ e. rw e h) (λ n. up-kept P c l x o z n)) (S .ends y))
       (up-new P c l x o)
 
-  pub relink-linked : Linked P′
+  relink-linked : Linked P′
   unfolding relink setOwn setList alive
   relink-linked = record { tabs = S .tabs; held = held′; link = link′; short = short′; flags = S .flags; ends = ends′ }
 
@@ -265,7 +265,7 @@ owns-other : (c b : Con) → b ≢ c → owns (some c) b ≡ 0
 unfolding owns
 owns-other c b n = tick-no (Con-dec c b) (λ e. n (sym e))
 
-pub enter-linked : {P : State} → Linked P → (c : Con) (l : List Thing) (x : Thing) → Entry P c l x → Linked (relink c l x (some c) P)
+enter-linked : {P : State} → Linked P → (c : Con) (l : List Thing) (x : Thing) → Entry P c l x → Linked (relink c l x (some c) P)
 enter-linked {P} S c l x E =
     relink-linked S c l x (some c)
     (record {

@@ -141,17 +141,6 @@ module _ {A : Type 0} where
       go true w = rw w (rw (find-below 0 b t m r (leb-true b m w)) (find-number b xs m (leb-true b m w)))
       go false w = rw w (old (find t m) refl w)
 
--- a change at one number is a map over all entries
-module _ {A : Type 0} where
-  pub change-is-map : (n : ℕ) (f : A → A) (t : Table A) → change n f t ≡ change-all (λ m. cond (eqb m n) f (λ a. a)) t
-  unfolding change change-all
-  change-is-map n f [] = refl
-  change-is-map n f (e ∷ t) = go (eqb (e .0) n) refl (change-is-map n f t)
-    where
-      go : (c : Bool) → eqb (e .0) n ≡ c → change n f t ≡ change-all (λ m. cond (eqb m n) f (λ a. a)) t → cond c ((e .0, f (e .1)) ∷ change n f t) (e ∷ change n f t) ≡ (e .0, cond (eqb (e .0) n) f (λ a. a) (e .1)) ∷ change-all (λ m. cond (eqb m n) f (λ a. a)) t
-      go true z ih = rw z (ap {B = Table A} (λ x. (e .0, f (e .1)) ∷ x) ih)
-      go false z ih = rw z (ap {B = Table A} (λ x. e ∷ x) ih)
-
 -- ---- how often a number stands in the entries' lists
 
 module _ {A : Type 0} (g : A → List ℕ) where

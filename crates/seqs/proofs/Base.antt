@@ -54,9 +54,6 @@ module _ {ℓ κ μ} {A : Type ℓ} {B : Type κ} {C : Type μ} (dA : Discrete A
       (λ n. inr (λ _ q. n q, rw (p, upd-same dA F a (upd dB (F a) b v)) (upd-other dB (F a) b v n))))
       (λ n. inr (λ p _. n p, rw (upd-other dA F a (upd dB (F a) b v) n)))
 
-  pub upd2-other : (x : A) (y : B) → x ≢ a → upd dA F a (upd dB (F a) b v) x y ≡ F x y
-  upd2-other x y n = rw (upd-other dA F a (upd dB (F a) b v) n)
-
 -- ---- counts
 
 pub tick-yes {ℓ} : {A : Type ℓ} (w : Dec A) → A → tick w ≡ 1
@@ -151,13 +148,6 @@ module _ {A : Type 0} (d : Discrete A) where
       go ih (yes p) (no q) = absurd (q (h x (in-head x l) .0 p))
       go ih (no p) (yes q) = absurd (p (h x (in-head x l) .1 q))
       go ih (no p) (no q) = ap {B = List C} (λ r. f x ∷ r) ih
-
-  -- nothing leaves where no key is the one looked for
-  pub withoutBy-none {κ} : {C : Type 0} {D : Type κ} (dD : Discrete D) (f : A → C) (kC : C → D) (c : D) (l : List A) → ((x : A) → In d x l → kC (f x) ≢ c) → withoutBy dD kC c (map f l) ≡ map f l
-  withoutBy-none dD f kC c [] h = refl
-  withoutBy-none {C} dD f kC c (x ∷ l) h =
-      if-neg (dD (kC (f x)) c) (h x (in-head x l)) (withoutBy dD kC c (map f l)) (f x ∷ withoutBy dD kC c (map f l))
-      ∙ ap {B = List C} (λ r. f x ∷ r) (withoutBy-none dD f kC c l (λ y k. h y (in-tail y x l k)))
 
 pub map-insertAt : {A B : Type 0} (f : A → B) (i : ℕ) (x : A) (l : List A) → map f (insertAt i x l) ≡ insertAt i (f x) (map f l)
 map-insertAt f zero x l = refl

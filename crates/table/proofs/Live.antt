@@ -4,7 +4,7 @@ use mathlib.Core.Path.{_≡_, refl, sym, ap, _∙_}
 use mathlib.Core.Bool.{Bool}
 use mathlib.Core.Logic.{_≢_, if-pos, if-neg, by-cases}
 use mathlib.Core.List.{List, [], _∷_, _++_}
-use Prim.Native.Nat.{ℕ, zero, suc, _+_, _-_, _≤_, _<_}
+use Prim.Native.Nat.{ℕ, zero, suc, _+_, _-_, _<_}
 use native.Mathlib.Decide.{ℕ-discrete}
 use native.Mathlib.Omega.{arith}
 use borrow.Author.Tests.{eq-eqb, ne-eqb}
@@ -14,9 +14,9 @@ use Rattle.table.specs.Table.{Table, order, stamp, live, entry, tab, fin
 use Rattle.table.specs.Table.{count as lives}
 use Rattle.table.proofs.Facts.{find-iff}
 use Rattle.table.proofs.Canon.{tab-get}
-use Rattle.seqs.specs.Seqs.{count, withoutBy, Rises}
+use Rattle.seqs.specs.Seqs.{count, withoutBy}
 use Rattle.seqs.specs.Entries.{lookup, places}
-use Rattle.seqs.proofs.Base.{rises-snoc, count-append, map-append, tick-yes, tick-no}
+use Rattle.seqs.proofs.Base.{count-append, map-append, tick-yes, tick-no}
 
 abbrev Entry : Type 0
 Entry = ℕ × ℕ
@@ -102,22 +102,6 @@ module _ {n : ℕ} {t : List ℕ} (T : Table n t) where
       let y : findIn (live n t) x ≡ At p = find-iff n t T x p .1 (live-stamp p h .0, omega (arith, live-number p h, g)) in
       let z : _≡_ {A = ℕ} 0 1 = cc in
       omega arith
-
-  rising-to : (m : ℕ) → m ≤ lives t → Rises (lookup (live n t)) (places (tab (entry n t) m))
-  unfolding tab
-  rising-to zero h = tt
-  rising-to (suc m) h =
-      rw (map-append (λ (x : Entry). x .1) (tab (entry n t) m) (entry n t m ∷ []))
-      (rises-snoc (lookup (live n t)) (places (tab (entry n t) m)) (order t m) (rising-to m (omega arith))
-      (λ q i.
-      let w : (j : ℕ) × (j < m) × (order t j ≡ q) = tab-in (entry n t) m q i in
-      let a : 0 < count ℕ-discrete q (places (live n t)) = in-tab (entry n t) (lives t) q (w .0) (omega (arith, w .1)) (w .2) in
-      let b : 0 < count ℕ-discrete (order t m) (places (live n t)) = in-tab (entry n t) (lives t) (order t m) m (omega arith) refl in
-      omega (arith, live-number q a, live-number (order t m) b, T .rising (w .0) m (w .1) (omega arith), ap (stamp n t) (w .2))))
-
-  -- the live places stand by rising number
-  pub live-rises : Rises (lookup (live n t)) (places (live n t))
-  live-rises = rising-to (lives t) (omega arith)
 
   -- the live place at an index
   pub live-nth : (i : ℕ) → i < lives t → getD (places (live n t)) i 0 ≡ order t i

@@ -14,7 +14,6 @@ use Rattle.places.specs.Roles.{Unnamed, missingCode, memberKind, memberBy}
 use Rattle.places.specs.Parts.{rowsOf}
 use Rattle.places.proofs.Rows.{mine}
 use Rattle.context.specs.declared.Layout.{Layout}
-use Rattle.context.specs.Layout.{ncOf}
 use Rattle.context.specs.Memory.{con, stateOf, SoundStore, Finds, FirstIs, headCode}
 use Rattle.context.specs.Reading.{NthIs}
 use Rattle.context.specs.Steps.{Unused, EndedValue}
@@ -62,9 +61,6 @@ values-at w n k a F e = rw e at F
 pub values-none : (l : Layout) (m : List ℕ) (w : Member) (n : ℕ) (a : Found) → ValuesFound l m w n a → a ≡ Nothing → Unnamed (stateOf l m) (memberKind w) n
 values-none l m w n a F e = rw e at F
 
-pub missing-operation : (w : ℕ) → w ≡ 0 → 7 ≡ missingCode (memberKind (memberBy w))
-missing-operation w z = rw (member-0 w z)
-
 pub missing-block : (w : ℕ) → w ≢ 0 → 8 ≡ missingCode (memberKind (memberBy w))
 missing-block w z = rw (member-1 w z)
 
@@ -84,9 +80,6 @@ module _ {l : Layout} {m : List ℕ} (S : SoundStore l m) (k i p : ℕ) (N : Nth
 
   pub nth-live : Live R (val, p)
   nth-live = S .sound .linked .link (val, p) vals (con l vals k) (N .own) .live
-
-  pub in-sets : p < ncOf l useSets
-  in-sets = omega (arith, N .inside)
 
   module _ (u : ℕ) (F : FirstIs l useSets p m u) where
     set-is : con l useSets p ≡ (valueUses, (val, p))

@@ -7,7 +7,8 @@ use native.Mathlib.Decide.{ℕ-discrete}
 use native.Mathlib.Omega.{arith}
 use lib.ListN.{length, getD, take, drop}
 use Rattle.seqs.specs.Split.{split, splice}
-use Rattle.linked_list.specs.Links.{at, home, lists, Linked, Rowed, Sizes, row, container, listOf}
+use Rattle.linked_list.specs.Links.{at, home, lists, Linked, Rowed, Sizes, row, container, listOf, HomeIn}
+use Rattle.linked_list.proofs.Getters.{home-cell}
 use Rattle.linked_list.proofs.View.{row-short}
 use Rattle.seqs.specs.Seqs.{without, insertAt}
 use Rattle.seqs.proofs.Base.{insertAt-back}
@@ -59,11 +60,13 @@ module _ (l : Layout) (m : List ℕ) (f : Fam) (r : Span) (W : Well l m) (T : Sp
       → Sizes (r .nc) (r .nn) × (Linked (r .nc) (r .nn) (take (e - r .at) (drop (r .at) m)) × (((k < r .nc) × (n < r .nn)) × (getD (take (e - r .at) (drop (r .at) m)) (home (r .nc) (r .nn) n) 0 ≡ 0)))
   enter-asked k n h z = (sized, (linked, ((omega (arith, T .containers), omega (arith, T .nodes)), rw (seen, T .containers, T .nodes) (free l m f n z))))
 
-  pub home-is : (n h : ℕ) → h ≡ getD (take (e - r .at) (drop (r .at) m)) (home (r .nc) (r .nn) n) 0 → HomeIs l f n m h
-  home-is n h g = record { own = own-is l m f n ∙ ap (λ (j : ℕ). conOf (con l f) (decode j)) (sym (rw (seen, T .containers, T .nodes) at g)) }
+  pub home-is : (n h : ℕ) → n < nnOf l f → HomeIn (r .nc) (lists (r .nc) (r .nn) (take (e - r .at) (drop (r .at) m))) n h → HomeIs l f n m h
+  home-is n h i H =
+      let g : h ≡ getD (take (e - r .at) (drop (r .at) m)) (home (r .nc) (r .nn) n) 0 = home-cell linked n h (omega (arith, T .nodes)) H in
+      record { own = own-is l m f n ∙ ap (λ (j : ℕ). conOf (con l f) (decode j)) (sym (rw (seen, T .containers, T .nodes) at g)) }
 
-  pub home-asked : (n : ℕ) → n < nnOf l f → Sizes (r .nc) (r .nn) × ((length (take (e - r .at) (drop (r .at) m)) ≡ 2 * r .nc + 3 * r .nn) × (n < r .nn))
-  home-asked n h = (sized, (linked .size, omega (arith, T .nodes)))
+  pub home-asked : (n : ℕ) → n < nnOf l f → Sizes (r .nc) (r .nn) × (Linked (r .nc) (r .nn) (take (e - r .at) (drop (r .at) m)) × (n < r .nn))
+  home-asked n h = (sized, (linked, omega (arith, T .nodes)))
 
   pub length-is : (k n : ℕ) → n ≡ length (getD (lists (r .nc) (r .nn) (take (e - r .at) (drop (r .at) m))) k []) → LengthIs l f k m n
   unfolding partsOf

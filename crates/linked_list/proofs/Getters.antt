@@ -1,16 +1,17 @@
 -- What the getters read, as the lists have it; and one step along a list. Assumes nothing.
 use mathlib.Core.Path.{_≡_, refl, sym, ap, _∙_}
-use mathlib.Core.Logic.{_⊎_, inl, inr, _≢_}
+use mathlib.Core.Logic.{_⊎_, inl, inr, _≢_, by-cases}
 use mathlib.Core.Bool.{Bool, true, false}
 use mathlib.Core.List.{List, [], _∷_}
 use Prim.Native.Nat.{ℕ, zero, suc, _+_, _-_, _*_, _<_, _≤_, zero-le, suc-le-suc}
 use native.Mathlib.Nat.{le-of-suc-le-suc, not-suc-le-zero, suc-inj}
+use native.Mathlib.Decide.{ℕ-discrete}
 use native.Mathlib.Omega.{arith}
 use native.Mathlib.Numerals.{add-one}
 use lib.ListN.{length, getD}
 use lib.Dec.{eqb}
 use borrow.Author.Tests.{eq-eqb, ne-eqb}
-use Rattle.linked_list.specs.Links.{at, home, Row, Free, Held, Links, has, rowOf, contOf, nextIn, prevIn, lastIn, bump, choose}
+use Rattle.linked_list.specs.Links.{at, home, Row, Free, Held, Links, has, rowOf, contOf, HomeIn, nextIn, prevIn, lastIn, bump, choose}
 use Rattle.linked_list.proofs.Laws.{at-lt, at-out, at-in, at-end, mine-le, at-mine}
 use Rattle.linked_list.proofs.View.{seat, index-at}
 
@@ -78,6 +79,31 @@ cells {nc} {nn} {s} {ls} L n n< = go (L .node n n<)
     go : Free nc nn s n ⊎ Held nc ls n → Cells nc nn s ls n
     go (inl F) = free F
     go (inr H) = held H
+
+-- which list has a node: its cell says it
+pub home-in : {nc nn : ℕ} {s : List ℕ} {ls : List (List ℕ)} → Links nc nn s ls → (n : ℕ) → n < nn → HomeIn nc ls n (getD s (home nc nn n) 0)
+home-in {nc} {nn} {s} {ls} L n n< =
+    record {
+      none = ((λ e c h. has-false n (getD ls c []) (λ j z. absurd (omega (arith, e, L .row c h .own j n z .1)))), (λ f. go f (L .node n n<)));
+      one = λ c h. ((λ e. let S = seat L c n n< e in has-true n (getD ls c []) (S .index) (S .there)), (λ t. by-cases (ℕ-discrete (getD s (home nc nn n) 0) (suc c)) (λ e. e) (λ d. absurd (both (has n (getD ls c [])) t (has-false n (getD ls c []) (λ j z. d (L .row c h .own j n z .1)))))));
+    }
+  where
+    both : (b : Bool) → b ≡ true → b ≡ false → ⊥
+    both b t f = let z : _≡_ {A = ℕ} 0 1 = cc in omega arith
+
+    go : ((c : ℕ) → c < nc → has n (getD ls c []) ≡ false) → Free nc nn s n ⊎ Held nc ls n → getD s (home nc nn n) 0 ≡ 0
+    go f (inl F) = F .home0
+    go f (inr H) = absurd (both (has n (getD ls (H .cont) [])) (has-true n (getD ls (H .cont) []) (H .index) (H .there)) (f (H .cont) (H .cont<)))
+
+-- and nothing else says it: for a caller that knows the slice by its cells
+pub home-cell : {nc nn : ℕ} {s : List ℕ} {ls : List (List ℕ)} → Links nc nn s ls → (n r : ℕ) → n < nn → HomeIn nc ls n r → r ≡ getD s (home nc nn n) 0
+home-cell {nc} {nn} {s} {ls} L n r n< H = go (L .node n n<)
+  where
+    go : Free nc nn s n ⊎ Held nc ls n → r ≡ getD s (home nc nn n) 0
+    go (inl F) = H .none .1 (home-in L n n< .none .0 (F .home0)) ∙ sym (F .home0)
+    go (inr K) =
+        let e : getD s (home nc nn n) 0 ≡ suc (K .cont) = L .row (K .cont) (K .cont<) .own (K .index) n (K .there) .1 in
+        H .one (K .cont) (K .cont<) .1 (home-in L n n< .one (K .cont) (K .cont<) .0 e) ∙ sym e
 
 pub tail-is : {nc nn c : ℕ} {s l : List ℕ} → Row nc nn s c l → getD s (nc + c) 0 ≡ lastIn l
 tail-is {nc} {nn} {c} {s} {l} R =

@@ -3,7 +3,7 @@
 -- The containers' lists, in order, are a list of lists of nodes, `ls`. `Links nc nn s ls` says that s holds ls, and `lists` reads ls off s.
 -- Assumes nothing: these are definitions.
 use mathlib.Core.Path.{_≡_}
-use mathlib.Core.Logic.{_⊎_, _≢_}
+use mathlib.Core.Logic.{_⊎_, _≢_, _↔_}
 use mathlib.Core.Bool.{Bool, true, false}
 use mathlib.Core.List.{List, [], _∷_, _++_}
 use Prim.Native.Nat.{ℕ, zero, suc, _+_, _-_, _*_, _<_, _≤_}
@@ -171,6 +171,11 @@ bump (suc k) = suc (suc k)
 unfoldable pub contOf : ℕ → List (List ℕ) → ℕ
 contOf n [] = 0
 contOf n (l ∷ ls) = choose (has n l) 1 (bump (contOf n ls))
+
+-- r says which list has n: 0 exactly where none has it, and c + 1 exactly where c's has it
+pub record HomeIn (nc : ℕ) (ls : List (List ℕ)) (n r : ℕ) : Type 0 where
+  pub none : (r ≡ 0) ↔ ((c : ℕ) → c < nc → has n (getD ls c []) ≡ false)
+  pub one : (c : ℕ) → c < nc → (r ≡ suc c) ↔ (has n (getD ls c []) ≡ true)
 
 -- what is stored for the node after n in l, and for the one before it: 0 for none
 abbrev pub nextIn : ℕ → List ℕ → ℕ

@@ -13,7 +13,7 @@ ghost use lib.ListN.{getD, length};
 ghost use Rattle.seqs.specs.Seqs.{Says, insertAt, without};
 ghost use Rattle.linked_list.specs.Links.{at, after, before, home, Linked, lists, row, container, listOf, Sizes};
 ghost use Rattle.linked_list.specs.Links.{Rowed, Appended, Emptied, splice, insertAfter, insertBefore};
-ghost use Rattle.linked_list.specs.Links.{nextIn, prevIn, lastIn, rowOf, contOf};
+ghost use Rattle.linked_list.specs.Links.{nextIn, prevIn, lastIn, rowOf, contOf, HomeIn};
 ghost use Rattle.linked_list.specs.Check.{RowFound, RowsFound, FreesFound};
 
 fn wide(x: u32) -> usize
@@ -159,11 +159,12 @@ pub fn get_container(s: &[u32], nc: usize, nn: usize, n: usize) -> u32
     s[2 * nc + 2 * nn + n]
 }
 
-// The same cell of a slice of any contents.
+// The same, said list by list: 0 exactly if no list has n, and c + 1 exactly if c's list has it.
 pub fn get_home(s: &[u32], nc: usize, nn: usize, n: usize) -> usize
     requires { ⌜ Sizes nc nn ⌝ }
-    requires { ⌜ (length (now s) ≡ 2 * nc + 3 * nn) × (n < nn) ⌝ }
-    ensures { λ r. ⌜ r ≡ getD (now (s .entry)) (home nc nn n) 0 ⌝ }
+    requires { ⌜ Linked nc nn (now s) ⌝ }
+    requires { ⌜ n < nn ⌝ }
+    ensures { λ r. ⌜ HomeIn nc (lists nc nn (now (s .entry))) n r ⌝ }
 {
     wide(s[2 * nc + 2 * nn + n])
 }

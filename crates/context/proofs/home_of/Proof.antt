@@ -41,7 +41,7 @@ returns : tie.Need-returns
 returns c =
     let b = c .before .before .before .before in
     let r = c .before .before .family-span in
-    home-is (b .args .l) (b .args .m .now) (famOf (b .args .f)) (r .result) (b .pre .0) (r .ensures) (b .args .n) (c .get-home .result) (c .get-home .ensures)
+    home-is (b .args .l) (b .args .m .now) (famOf (b .args .f)) (r .result) (b .pre .0) (r .ensures) (b .args .n) (c .get-home .result) (b .pre .1) (c .get-home .ensures)
 
 pub home-of-spec : {M : Type 1} → statement M
 home-of-spec =

@@ -1,3 +1,4 @@
+use Rattle.linked_list.proofs.Getters.{home-cell}
 use native.Mathlib.Omega.{arith}
 use borrow.Author.Needs.{needs}
 use Rattle.linked_list_demo.proofs.insert.Statement.{statement}
@@ -19,7 +20,7 @@ returns-3 : tie.Need-returns-3
 returns-3 c = search needs
 
 insert-at-front-requires : tie.Need-insert-at-front-requires
-insert-at-front-requires c κs = let b = c .before .before .before .before .before .before .before .before in (b .pre .0, (b .pre .1, ((omega arith, omega arith), omega (arith, c .before .before .before .get-home .ensures, c .before .before .if3 .left))))
+insert-at-front-requires c κs = let b = c .before .before .before .before .before .before .before .before in (b .pre .0, (b .pre .1, ((omega arith, omega arith), omega (arith, home-cell (b .pre .1) (b .args .n) (c .before .before .before .get-home .result) (omega arith) (c .before .before .before .get-home .ensures), c .before .before .if3 .left))))
 
 same-length-2 : tie.Need-same-length-2
 same-length-2 c = search needs
@@ -28,7 +29,7 @@ returns-4 : tie.Need-returns-4
 returns-4 c = search needs
 
 insert-at-back-requires : tie.Need-insert-at-back-requires
-insert-at-back-requires c κs = let b = c .before .before .before .before .before .before .before .before .before in (b .pre .0, (b .pre .1, ((omega arith, omega arith), omega (arith, c .before .before .before .before .get-home .ensures, c .before .before .before .if3 .left))))
+insert-at-back-requires c κs = let b = c .before .before .before .before .before .before .before .before .before in (b .pre .0, (b .pre .1, ((omega arith, omega arith), omega (arith, home-cell (b .pre .1) (b .args .n) (c .before .before .before .before .get-home .result) (omega arith) (c .before .before .before .before .get-home .ensures), c .before .before .before .if3 .left))))
 
 same-length-3 : tie.Need-same-length-3
 same-length-3 c = search needs
@@ -37,7 +38,7 @@ returns-5 : tie.Need-returns-5
 returns-5 c = search needs
 
 insert-at-requires : tie.Need-insert-at-requires
-insert-at-requires c κs = let b = c .before .before .before .before .before .before .before .before .before in (b .pre .0, (b .pre .1, ((omega arith, omega arith), omega (arith, c .before .before .before .before .get-home .ensures, c .before .before .before .if3 .left))))
+insert-at-requires c κs = let b = c .before .before .before .before .before .before .before .before .before in (b .pre .0, (b .pre .1, ((omega arith, omega arith), omega (arith, home-cell (b .pre .1) (b .args .n) (c .before .before .before .before .get-home .result) (omega arith) (c .before .before .before .before .get-home .ensures), c .before .before .before .if3 .left))))
 
 same-length-4 : tie.Need-same-length-4
 same-length-4 c = search needs

@@ -1,3 +1,4 @@
+use Rattle.linked_list.proofs.Getters.{home-cell}
 use native.Mathlib.Omega.{arith}
 use borrow.Author.Needs.{needs}
 use Rattle.linked_list_demo.proofs.insert_by_mark.Statement.{statement}
@@ -28,7 +29,7 @@ returns-4 : tie.Need-returns-4
 returns-4 c = search needs
 
 insert-after-requires : tie.Need-insert-after-requires
-insert-after-requires c κs = let b = c .before .before .before .before .before .before .before .before .before .before .before in (b .pre .0, (b .pre .1, ((omega arith, omega arith), (omega (arith, c .before .before .before .before .before .before .get-home .ensures, c .before .before .before .before .before .if3 .left), omega (arith, c .before .before .before .get-home2 .ensures, c .before .before .if4 .left)))))
+insert-after-requires c κs = let b = c .before .before .before .before .before .before .before .before .before .before .before in (b .pre .0, (b .pre .1, ((omega arith, omega arith), (omega (arith, home-cell (b .pre .1) (b .args .m) (c .before .before .before .before .before .before .get-home .result) (omega arith) (c .before .before .before .before .before .before .get-home .ensures), c .before .before .before .before .before .if3 .left), omega (arith, home-cell (b .pre .1) (b .args .n) (c .before .before .before .get-home2 .result) (omega arith) (c .before .before .before .get-home2 .ensures), c .before .before .if4 .left)))))
 
 same-length-3 : tie.Need-same-length-3
 same-length-3 c = search needs
@@ -37,7 +38,7 @@ returns-5 : tie.Need-returns-5
 returns-5 c = search needs
 
 insert-before-requires : tie.Need-insert-before-requires
-insert-before-requires c κs = let b = c .before .before .before .before .before .before .before .before .before .before .before in (b .pre .0, (b .pre .1, ((omega arith, omega arith), (omega (arith, c .before .before .before .before .before .before .get-home .ensures, c .before .before .before .before .before .if3 .left), omega (arith, c .before .before .before .get-home2 .ensures, c .before .before .if4 .left)))))
+insert-before-requires c κs = let b = c .before .before .before .before .before .before .before .before .before .before .before in (b .pre .0, (b .pre .1, ((omega arith, omega arith), (omega (arith, home-cell (b .pre .1) (b .args .m) (c .before .before .before .before .before .before .get-home .result) (omega arith) (c .before .before .before .before .before .before .get-home .ensures), c .before .before .before .before .before .if3 .left), omega (arith, home-cell (b .pre .1) (b .args .n) (c .before .before .before .get-home2 .result) (omega arith) (c .before .before .before .get-home2 .ensures), c .before .before .if4 .left)))))
 
 same-length-4 : tie.Need-same-length-4
 same-length-4 c = search needs

@@ -1,3 +1,4 @@
+use Rattle.linked_list.proofs.Getters.{home-cell}
 use native.Mathlib.Omega.{arith}
 use borrow.Author.Needs.{needs}
 use Rattle.linked_list_demo.proofs.unlink.Statement.{statement}
@@ -16,7 +17,7 @@ returns-2 : tie.Need-returns-2
 returns-2 c = search needs
 
 unlink-requires : tie.Need-unlink-requires
-unlink-requires c κs = let b = c .before .before .before .before .before .before in (b .pre .0, (b .pre .1, (omega arith, omega (arith, c .before .before .get-home .ensures, c .before .if2 .left))))
+unlink-requires c κs = let b = c .before .before .before .before .before .before in (b .pre .0, (b .pre .1, (omega arith, omega (arith, home-cell (b .pre .1) (b .args .n) (c .before .before .get-home .result) (omega arith) (c .before .before .get-home .ensures), c .before .if2 .left))))
 
 same-length-2 : tie.Need-same-length-2
 same-length-2 c = search needs

@@ -5,7 +5,7 @@ use mathlib.Core.Bool.{Bool, true, false, not}
 use mathlib.Core.List.{List}
 use mathlib.Core.Option.{Option, some}
 use native.Mathlib.Omega.{arith}
-use Prim.Native.Nat.{ℕ, zero, suc, _+_, _-_}
+use Prim.Native.Nat.{ℕ, zero, suc, _-_}
 use Rattle.rules.specs.Table.{some-and, member}
 use Rattle.places.specs.Store.{op, blk, usg, ops, slots, opsIn, Thing, Con, State, Live, outer, up}
 use Rattle.places.specs.View.{num}

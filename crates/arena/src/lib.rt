@@ -2,6 +2,8 @@
 // live count, live places by rising number, stamps), and then the occupancy map. A thing is born at the lowest free place, gets the
 // next birth number, which no other thing ever has, and is found by it. Ported from `Arena` and the counters of
 // context.rs of pliron 0.20.0 (Apache-2.0).
+#![tactic(auto)]
+
 ghost use Rattle.std.specs.Prelude.{◌≡◌, ◌+◌, ◌-◌, ◌*◌, ◌≤◌, ◌<◌, length, get_or};
 ghost use Rattle.arena.specs.Packed.{Packed, Alive, Bore, Gone, Fresh, Agree, Spare, front, cells, words};
 ghost use Rattle.bits.specs.Map.{lowest};

@@ -1,5 +1,7 @@
 // An occupancy map in one lent slice: place p is bit p % 64 of the 64-bit word p / 64. A word is two numbers of 32 bits, the low half
 // first, so that p is also bit p % 32 of the number p / 32. A set bit says that the place is taken.
+#![tactic(auto)]
+
 ghost use Rattle.std.specs.Prelude.{◌≡◌, ◌+◌, ◌*◌, ◌/◌, ◌%◌, ◌≤◌, ◌<◌, length, get_or};
 ghost use Rattle.bits.specs.Map.{bit, lowest, Ones, Common, Skipped, Flipped, Cleared};
 

@@ -1,5 +1,6 @@
 // The store in one lent memory: its layout, start, tables, look-ups and the check of its parts. The parts are lent to the lower crates.
 // After context.rs of pliron 0.20.0 (Apache-2.0); the modules are after the files that they are named after.
+#![tactic(auto)]
 pub mod lists; // lists.rt: nodes enter and leave lists
 pub mod value; // value.rt: values and uses
 pub mod operation; // operation.rt

@@ -2,31 +2,39 @@
 use mathlib.Core.Path.{refl}
 use mathlib.Core.List.{List}
 use Prim.Native.Nat.{ℕ}
-use Rattle.edit.specs.Record.{operand, successor, operation, block, field, edits}
+use Rattle.edit.specs.Record.{Slot, Member, operand, successor, operation, block, field, edits}
 use Rattle.edit.specs.Taken.{edit_of}
 use Rattle.edit.specs.ByKind.{Kinds}
+
+for_slots : (P : Slot → Type 0) → P operand → P successor → (s : Slot) → P s
+for_slots P a b operand = a
+for_slots P a b successor = b
+
+for_members : (P : Member → Type 0) → P operation → P block → (m : Member) → P m
+for_members P a b operation = a
+for_members P a b block = b
 
 pub kinds : (fs : List ℕ) → Kinds fs
 unfolding edit_of edits field
 kinds fs = record {
   operation_new = refl;
   block_new = refl;
-  use_push = λ s. elim s [ operand ↦ refl | successor ↦ refl ];
-  use_insert = λ s. elim s [ operand ↦ refl | successor ↦ refl ];
-  use_replace = λ s. elim s [ operand ↦ refl | successor ↦ refl ];
-  use_remove = λ s. elim s [ operand ↦ refl | successor ↦ refl ];
-  use_pop = λ s. elim s [ operand ↦ refl | successor ↦ refl ];
-  value_push = λ m. elim m [ operation ↦ refl | block ↦ refl ];
-  value_insert = λ m. elim m [ operation ↦ refl | block ↦ refl ];
-  value_remove = λ m. elim m [ operation ↦ refl | block ↦ refl ];
-  value_pop = λ m. elim m [ operation ↦ refl | block ↦ refl ];
-  after_mark = λ m. elim m [ operation ↦ refl | block ↦ refl ];
-  before_mark = λ m. elim m [ operation ↦ refl | block ↦ refl ];
-  at_front = λ m. elim m [ operation ↦ refl | block ↦ refl ];
-  at_back = λ m. elim m [ operation ↦ refl | block ↦ refl ];
-  taken_out = λ m. elim m [ operation ↦ refl | block ↦ refl ];
+  use_push = for_slots _ refl refl;
+  use_insert = for_slots _ refl refl;
+  use_replace = for_slots _ refl refl;
+  use_remove = for_slots _ refl refl;
+  use_pop = for_slots _ refl refl;
+  value_push = for_members _ refl refl;
+  value_insert = for_members _ refl refl;
+  value_remove = for_members _ refl refl;
+  value_pop = for_members _ refl refl;
+  after_mark = for_members _ refl refl;
+  before_mark = for_members _ refl refl;
+  at_front = for_members _ refl refl;
+  at_back = for_members _ refl refl;
+  taken_out = for_members _ refl refl;
   region_move = refl;
-  use_move = λ s. elim s [ operand ↦ refl | successor ↦ refl ];
+  use_move = for_slots _ refl refl;
   some_uses = refl;
   some_predecessors = refl;
   operation_drop = refl;

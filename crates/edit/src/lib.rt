@@ -2,6 +2,8 @@
 //
 // A record is a length and a kind of 16 bits each and then fields of 32 bits, little-endian. No function that reads
 // bytes requires anything of them: what is wrong with a record is an answer.
+#![tactic(auto)]
+
 ghost use Rattle.std.specs.Prelude.{◌≡◌, true, false, ◌+◌, ◌-◌, ◌*◌, ◌≤◌, ◌<◌, length, get_or};
 ghost use Rattle.edit.specs.Answer.{Put, numbers, numbers_of};
 ghost use Rattle.edit.specs.Record.{least, over, filled};

@@ -3,6 +3,8 @@
 //
 // All is in one lent slice `s` of 2 * nc + 3 * nn numbers: for nc containers the heads, then the tails; for nn nodes the nexts,
 // then the prevs, then the containers. A stored 0 means none, and k + 1 means k.
+#![tactic(auto)]
+
 ghost use Rattle.std.specs.Prelude.{◌≡◌, ◌≢◌, [], ◌∷◌, ◌++◌, ◌+◌, ◌*◌, ◌<◌, ◌≤◌, ltb, get_or, length};
 ghost use Rattle.std.proofs.Math.Decide.{ℕ_discrete};
 ghost use Rattle.seqs.specs.Seqs.{Says, seq_insert_at, without};

@@ -7,6 +7,7 @@
 //   N 0 0 0  nothing, but each node's next, prev and container are printed
 //
 // A step whose requirements do not hold is refused: `act` tests each of them.
+#![tactic(auto)]
 ghost use Rattle.std.specs.Prelude.{◌≡◌, ◌+◌, ◌*◌, ◌<◌, ◌≤◌, length};
 ghost use Rattle.linked_list.specs.Links.{Sizes, Linked};
 

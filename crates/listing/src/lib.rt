@@ -1,5 +1,6 @@
 // The listing of a store and of answers, as text in a lent buffer. What does not fit is left out; the position that a function
 // hands back stops at the buffer's end.
+#![tactic(auto)]
 ghost use Rattle.std.specs.Prelude.{◌≡◌, [], ◌∷◌, ◌++◌, ◌+◌, ◌*◌, ◌≤◌, ◌<◌, length, get_or};
 ghost use Rattle.places.specs.Store.{Live, op, blk, reg, val, usg, use_sets};
 ghost use Rattle.places.specs.View.{num};

@@ -41,7 +41,15 @@ mine v o ops p h = refl
 mine v o blocks p h = refl
 
 pub node_in_lem : (r : Role) → node_in (fam r) ≡ node_of r
-node_in_lem r = elim r [ operands ↦ refl | successors ↦ refl | value_uses ↦ refl | block_uses ↦ refl | results ↦ refl | arguments ↦ refl | regions ↦ refl | ops ↦ refl | blocks ↦ refl ]
+node_in_lem operands = refl
+node_in_lem successors = refl
+node_in_lem value_uses = refl
+node_in_lem block_uses = refl
+node_in_lem results = refl
+node_in_lem arguments = refl
+node_in_lem regions = refl
+node_in_lem ops = refl
+node_in_lem blocks = refl
 
 module _ (R : Rows) (M : Parts) (c : Con) (q : ℕ) (own : R.con (fam c.0) (R.row c.0 c.1.1) ≡ c) where
   abbrev k : ℕ

@@ -109,7 +109,15 @@ module _ {P : State} (S : Sound P) (sl : Slot) (o n : ℕ) (lo : Live P (op, o))
 
   number_of : (r : Role) (x : ℕ) → definition_number (some (def_by r x)) ≡ x
   unfolding definition_number
-  number_of r x = elim r [ operands ↦ refl | successors ↦ refl | value_uses ↦ refl | block_uses ↦ refl | results ↦ refl | arguments ↦ refl | regions ↦ refl | ops ↦ refl | blocks ↦ refl ]
+  number_of operands x = refl
+  number_of successors x = refl
+  number_of value_uses x = refl
+  number_of block_uses x = refl
+  number_of results x = refl
+  number_of arguments x = refl
+  number_of regions x = refl
+  number_of ops x = refl
+  number_of blocks x = refl
 
   module _ (i q : ℕ) (lu : Live P (usg, q)) (at : get_or (map (num P) (P.list (op, o) (slot_role sl))) i 0 ≡ num P (usg, q)) (d : Con) (held : P.own (usg, q) use_sets ≡ some d) where
     taken_is : taken sl n i (meaning P).history ≡ num P d.1

@@ -113,10 +113,10 @@ module _ {P : State} (S : Sound P) (sl : Slot) (o i q : ℕ) (lo : Live P (op, o
   slot = (slot_role sl, (op, o))
 
   slot_fam : fam (slot_role sl) ≡ slots
-  slot_fam = elim sl [ operand ↦ refl | successor ↦ refl ]
+  slot_fam = elim sl as (λ s. fam (slot_role s) ≡ slots) [ operand ↦ refl | successor ↦ refl ]
 
   slot_node : node_of (slot_role sl) ≡ usg
-  slot_node = elim sl [ operand ↦ refl | successor ↦ refl ]
+  slot_node = elim sl as (λ s. node_of (slot_role s) ≡ usg) [ operand ↦ refl | successor ↦ refl ]
 
   stands : P.own (usg, q) (fam (slot_role sl)) ≡ some slot
   stands = listed S.linked (usg, q) (op, o) (slot_role sl) (subst (λ (y : Thing). In Thing-dec y L) at (in_at Thing-dec L i (usg, 0) inside))

@@ -50,7 +50,7 @@ reheld_accept P Q S E Z t e h =
     (ap (λ (s : RState). s.flags) e)
     (ap (λ (s : RState). s.types) e)
     (ap (λ (s : RState). s.orders) e)
-    (λ j. elim j [
+    (λ j. elim j as (λ k. (Q.tab k).cap ≡ (P.tab k).cap) [
       | op ↦ ap (λ (s : RState). s.capacities.operations) e
       | blk ↦ ap (λ (s : RState). s.capacities.blocks) e
       | reg ↦ ap (λ (s : RState). s.capacities.regions) e

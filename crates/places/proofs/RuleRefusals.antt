@@ -184,15 +184,27 @@ module _ {P : State} (S : Sound P) where
 
   pub caps_is : (k : Kind) → of_kind k (meaning P).capacities ≡ (P.tab k).cap
   unfolding meaning rule_state
-  caps_is k = elim k [ op ↦ refl | blk ↦ refl | reg ↦ refl | val ↦ refl | usg ↦ refl ]
+  caps_is op = refl
+  caps_is blk = refl
+  caps_is reg = refl
+  caps_is val = refl
+  caps_is usg = refl
 
   pub born_is : (k : Kind) → of_kind k (meaning P).history.born ≡ (P.tab k).next
   unfolding meaning rule_state hist view
-  born_is k = elim k [ op ↦ refl | blk ↦ refl | reg ↦ refl | val ↦ refl | usg ↦ refl ]
+  born_is op = refl
+  born_is blk = refl
+  born_is reg = refl
+  born_is val = refl
+  born_is usg = refl
 
   numbers_is : (k : Kind) → of_kind k numbers ≡ 4294967295
   unfolding numbers
-  numbers_is k = elim k [ op ↦ refl | blk ↦ refl | reg ↦ refl | val ↦ refl | usg ↦ refl ]
+  numbers_is op = refl
+  numbers_is blk = refl
+  numbers_is reg = refl
+  numbers_is val = refl
+  numbers_is usg = refl
 
   -- one more of the kind k: places and numbers, or numbers alone
   numbers_left : (k : Kind) → check (lacks numbers (meaning P).history.born (one_of k)) 21 0 ≡ ite (dec_lt (P.tab k).next 4294967295) 0 21

@@ -93,7 +93,7 @@ module _ {P : State} (S : Sound P) (sl : Slot) (pa : ℕ) (la : Live P (def_kind
   uses_are = tabled_view P usg use_of
 
   role_is : IsDef (def_role sl)
-  role_is = elim sl [ operand ↦ IsDef.of_val | successor ↦ IsDef.of_blk ]
+  role_is = elim sl as (λ s. IsDef (def_role s)) [ operand ↦ IsDef.of_val | successor ↦ IsDef.of_blk ]
 
   -- is it a use of a?
   pub use_of_lem : (u : ℕ) (d : Con) → Live P (usg, u) → P.own (usg, u) use_sets ≡ some d → bit (same_definition (use_of (rec_of P (usg, u))) A) ≡ tick (Con-dec d (def_role sl, (def_kind sl, pa)))

@@ -77,7 +77,7 @@ module _ (N : Names) (sl : Slot) (n i d : ℕ) (new : (f : Rec → Rec) → amen
   born_flags = tabled_same (λ e. e.tag) n (change_list (slot_role sl) (seq_insert_at i u)) (λ e. refl) (λ e. refl) (N.things op)
 
   fam_is : fam (slot_role sl) ≡ slots
-  fam_is = elim sl [ operand ↦ refl | successor ↦ refl ]
+  fam_is = elim sl as (λ s. fam (slot_role s) ≡ slots) [ operand ↦ refl | successor ↦ refl ]
 
   abbrev in_slot : Rec → Rec
   in_slot = set_home slots (some (slot_role sl, n))
@@ -133,7 +133,7 @@ module _ {P : State} (S : Sound P) (sl : Slot) (o : ℕ) (lo : Live P (op, o)) w
 
   uses_there : uses_in sl (op_of (rec_of P (op, o))) ≡ uses
   unfolding uses_in rec_of
-  uses_there = elim sl [ operand ↦ refl | successor ↦ refl ]
+  uses_there = elim sl as (λ s. uses_in s (op_of (rec_of P (op, o))) ≡ map (num P) (P.list (op, o) (slot_role s))) [ operand ↦ refl | successor ↦ refl ]
 
   pub slot_change : (a b : List ℕ → List ℕ) → a uses ≡ b uses → change (num P (op, o)) (change_slot sl a) (tabled op_of ((view P).things op)) ≡ change (num P (op, o)) (change_slot sl b) (tabled op_of ((view P).things op))
   slot_change a b h =

@@ -27,7 +27,15 @@ map_sift {B} d f p q (x ∷ l) h = go (map_sift d f p q l (λ y i. h y (in_tail 
     go ih (suc m) (suc n) e = ih
 
 shown_sift : (r : Role) (p : ℕ → ℕ) (l : List ℕ) → shown r (sift p l) ≡ sift p (shown r l)
-shown_sift r p l = elim r [ operands ↦ refl | successors ↦ refl | value_uses ↦ refl | block_uses ↦ refl | results ↦ refl | arguments ↦ refl | regions ↦ refl | ops ↦ refl | blocks ↦ refl ]
+shown_sift operands p l = refl
+shown_sift successors p l = refl
+shown_sift value_uses p l = refl
+shown_sift block_uses p l = refl
+shown_sift results p l = refl
+shown_sift arguments p l = refl
+shown_sift regions p l = refl
+shown_sift ops p l = refl
+shown_sift blocks p l = refl
 
 -- p by places, n by numbers
 module _ {P : State} (S : Linked P) (p : Thing → ℕ) (closed : Closed p P) (n : Kind → ℕ → ℕ) (same : (x : Thing) → Live P x → sgn (n x.0 (num P x)) ≡ sgn (p x)) where

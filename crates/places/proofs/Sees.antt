@@ -125,7 +125,15 @@ module _ {P : State} (S : Linked P) (c : Con) (l : List Thing) (x : Thing) (o : 
 -- ---- births
 
 shown_nil : (r : Role) → shown r [] ≡ []
-shown_nil r = elim r [ operands ↦ refl | successors ↦ refl | value_uses ↦ refl | block_uses ↦ refl | results ↦ refl | arguments ↦ refl | regions ↦ refl | ops ↦ refl | blocks ↦ refl ]
+shown_nil operands = refl
+shown_nil successors = refl
+shown_nil value_uses = refl
+shown_nil block_uses = refl
+shown_nil results = refl
+shown_nil arguments = refl
+shown_nil regions = refl
+shown_nil ops = refl
+shown_nil blocks = refl
 
 -- where a stands in no list and has none, the others' records do not name it
 module _ (P : State) (S : Linked P) (a : Thing) (B : Bare P a) (nm : Thing → ℕ) (old : (b : Thing) → b ≢ a → nm b ≡ num P b) where

@@ -1,5 +1,5 @@
 -- An element taken out, and the last one put into its gap: counts, lengths and images. Assumes nothing.
-use mathlib.Core.Path.{◌≡◌, refl, sym, ap, ◌∙◌}
+use mathlib.Core.Path.{◌≡◌, refl, sym, ap, ◌∙◌, subst}
 use mathlib.Core.Logic.{◌≢◌, ◌↔◌, ite, if_pos, if_neg, by_cases}
 use mathlib.Core.HLevel.{Discrete}
 use mathlib.Core.List.{List, [], ◌∷◌, map, map-map}
@@ -41,8 +41,8 @@ module _ {A : Type 0} (d : Discrete A) where
   pub count_seq_swap_out : (x : A) (l : List A) → count d x l ≡ 1 → (a : A) → tick (d a x) + count d a (seq_swap_out d x l) ≡ count d a l
   unfolding s
   count_seq_swap_out x [] h a = absurd (omega arith)
-  count_seq_swap_out x (y ∷ l) h a = by_cases (d x (seq_last_of y l)) last (λ n. by_cases (d a x) (λ e. rw (e, count_same x (seq_last_of y l) n (seq_front_of y l)) (omega (arith, tick_yes (d x x) refl)))
-      (λ m. by_cases (d a (seq_last_of y l)) (λ e. rw (e, count_new x (seq_last_of y l) n (seq_front_of y l)) (omega (arith, tick_no (d (seq_last_of y l) x) (λ q. n (sym q)), count_front x y l, count_front (seq_last_of y l) y l, tick_no (d x (seq_last_of y l)) n, tick_yes (d (seq_last_of y l) (seq_last_of y l)) refl)))
+  count_seq_swap_out x (y ∷ l) h a = by_cases (d x (seq_last_of y l)) last (λ n. by_cases (d a x) (λ e. subst (λ (b : A). tick (d b x) + count d b (seq_swap_out d x (y ∷ l)) ≡ count d b (y ∷ l)) (sym e) (rw (count_same x (seq_last_of y l) n (seq_front_of y l)) (omega (arith, tick_yes (d x x) refl))))
+      (λ m. by_cases (d a (seq_last_of y l)) (λ e. subst (λ (b : A). tick (d b x) + count d b (seq_swap_out d x (y ∷ l)) ≡ count d b (y ∷ l)) (sym e) (rw (count_new x (seq_last_of y l) n (seq_front_of y l)) (omega (arith, tick_no (d (seq_last_of y l) x) (λ q. n (sym q)), count_front x y l, count_front (seq_last_of y l) y l, tick_no (d x (seq_last_of y l)) n, tick_yes (d (seq_last_of y l) (seq_last_of y l)) refl))))
       (λ k. omega (arith, count_other x (seq_last_of y l) a m k (seq_front_of y l), tick_no (d a x) m, tick_no (d a (seq_last_of y l)) k, count_front a y l))))
     where
       last : x ≡ seq_last_of y l → tick (d a x) + count d a (seq_swap_out d x (y ∷ l)) ≡ count d a (y ∷ l)

@@ -53,6 +53,10 @@ kept_count p t n false z = keys_gone n p t (subst (λ (c : Bool). T (not c)) (sy
 more_count : {A : Type 0} (b n d : ℕ) (t : Table A) (xs : List A) → length xs ≡ d → count n (keys (t ++ number b xs)) ≡ count n (keys t) + count n (up b d)
 more_count b n d t xs e = omega (arith, keys_append n t (number b xs), ap (count n) (keys_number b xs ∙ ap (up b) e))
 
+flags_kept : (e : Edit) (s : State) (n : ℕ) (c : Bool) → live_operation (accept e s).history n ≡ c → count n (keys (accept e s).flags) ≡ cond c (count n (keys (s.flags ++ number s.history.born.operations (new_flags e)))) 0
+unfolding accept
+flags_kept e s n c z = kept_count (live_operation (remember e s.history)) (s.flags ++ number s.history.born.operations (new_flags e)) n c z
+
 pub flagged_accept : (e : Edit) (s : State) → T (eqb (refusal_of s e) 0) → Ordered s → Flagged s → Flagged (accept e s)
 unfolding Flagged
 flagged_accept e s k o w n = go (live_operation (accept e s).history n) refl
@@ -92,7 +96,7 @@ flagged_accept e s k o w n = go (live_operation (accept e s).history n) refl
         pick (inr x) = omega (arith, sum, found_count s.history.operations n (unfold live_operation in (and_l (live_operation s.history n) (not (ends_operation e s.history n)) x)))
 
     flags_now : (c : Bool) → live_operation (accept e s).history n ≡ c → count n (keys (accept e s).flags) ≡ cond c all 0
-    flags_now c z = unfold accept in (kept_count (live_operation (remember e s.history)) (s.flags ++ number s.history.born.operations (new_flags e)) n c (unfold accept in z))
+    flags_now = flags_kept e s n
 
     go : (c : Bool) → live_operation (accept e s).history n ≡ c → count n (keys (accept e s).flags) ≡ count n (keys (accept e s).history.operations)
     go true z = omega (arith, flags_now true z, most, least (is_true z), found_count (accept e s).history.operations n (unfold live_operation in (is_true z)), rising_once 0 _ n (accept e s).history.operations (ordered_accept e s k o).ops.rising)

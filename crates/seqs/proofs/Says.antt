@@ -14,8 +14,8 @@ pub says_true : (b : Bool) (P : Type 0) → b ≡ true → Says b P → P
 says_true b P e h = subst (λ (x : Bool). Says x P) e h
 
 -- where an `if` on its negation was taken, and where not
-pub says_no : (b : Bool) (P : Type 0) → not b ≡ true → Says b P → P → ⊥
-says_no b P e h = subst (λ (x : Bool). Says x P) (not-true b e) h
+pub says_no : (b : Bool) (P : Type 0) → b ≡ false → Says b P → P → ⊥
+says_no b P e h = subst (λ (x : Bool). Says x P) e h
 
-pub says_yes : (b : Bool) (P : Type 0) → not b ≡ false → Says b P → P
-says_yes b P e h = subst (λ (x : Bool). Says x P) (not-false b e) h
+pub says_yes : (b : Bool) (P : Type 0) → b ≡ true → Says b P → P
+says_yes b P e h = subst (λ (x : Bool). Says x P) e h

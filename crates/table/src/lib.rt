@@ -1,5 +1,7 @@
 // The birth table of an arena, in one lent slice of 2 + n + n numbers for n places: the next birth number; how many are alive; the
 // order, which is the live places by rising birth number and then 0; and each place's stamp, its birth number + 1, or 0 where it is free.
+#![tactic(auto)]
+
 ghost use Rattle.std.specs.Prelude.{◌≡◌, ◌+◌, ◌-◌, ◌≤◌, ◌<◌, length, get_or, set};
 ghost use Rattle.table.specs.Table.{Table, Shape, Ordered, Placed, Rested, Says, Rank, Bracket, Born, Ended, Closed, Shifted, Started, next, order, stamp, live, find_in, sign};
 

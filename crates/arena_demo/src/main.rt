@@ -4,18 +4,17 @@
 ghost use Rattle.arena.specs.Packed.{Packed};
 
 use bits::Found;
-use libc::STDOUT_FILENO;
 
 fn say(s: &[u8]) {
-    io::write_all(STDOUT_FILENO, s);
+    io::write_all(1, s);
 }
 
 fn number(n: usize) {
-    io::print_decimal(STDOUT_FILENO, n as u64);
+    io::print_decimal(1, n as u64);
 }
 
 // What a birth answers: the place, or why there is none.
-#[derive(Drop)]
+#[derive(Clone, Copy)]
 enum Answer {
     At(usize),
     Full,

@@ -73,7 +73,11 @@ module _ {l : Layout} {m m' s' : List ℕ} (k : Kind) (S : Swapped l (kind_part 
       }
 
 pub size_is : (l : Layout) (k : Kind) → get_or (sizes l) (kind_part k) 0 ≡ arena (cap_of l k)
-size_is l k = elim k [ op ↦ refl | blk ↦ refl | reg ↦ refl | val ↦ refl | usg ↦ refl ]
+size_is l op = refl
+size_is l blk = refl
+size_is l reg = refl
+size_is l val = refl
+size_is l usg = refl
 
 module _ (l : Layout) (m : List ℕ) (k : Kind) (r : Span) (W : Well l m) (T : RoomOf l k r) where
   abbrev e : ℕ

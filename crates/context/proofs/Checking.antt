@@ -52,10 +52,10 @@ family_says l m f r T b h =
 
 -- every kind and family has a code
 pub all_kinds : (l : Layout) (m : List ℕ) → ((j : ℕ) → j < 5 → TableOk l m (kind_of j)) → TablesOk l m
-all_kinds l m h = record { all = λ k. elim k [ op ↦ h 0 (omega arith) | blk ↦ h 1 (omega arith) | reg ↦ h 2 (omega arith) | val ↦ h 3 (omega arith) | usg ↦ h 4 (omega arith) ] }
+all_kinds l m h = record { all = λ k. elim k as (λ j. TableOk l m j) [ op ↦ h 0 (omega arith) | blk ↦ h 1 (omega arith) | reg ↦ h 2 (omega arith) | val ↦ h 3 (omega arith) | usg ↦ h 4 (omega arith) ] }
 
 pub all_families : (l : Layout) (m : List ℕ) → ((j : ℕ) → j < 6 → FamilyOk l m (fam_of j)) → FamiliesOk l m
-all_families l m h = record { all = λ f. elim f [ slots ↦ h 0 (omega arith) | use_sets ↦ h 1 (omega arith) | vals ↦ h 2 (omega arith) | regs ↦ h 3 (omega arith) | ops_in ↦ h 4 (omega arith) | blocks_in ↦ h 5 (omega arith) ] }
+all_families l m h = record { all = λ f. elim f as (λ g. FamilyOk l m g) [ slots ↦ h 0 (omega arith) | use_sets ↦ h 1 (omega arith) | vals ↦ h 2 (omega arith) | regs ↦ h 3 (omega arith) | ops_in ↦ h 4 (omega arith) | blocks_in ↦ h 5 (omega arith) ] }
 
 pub well_of : (l : Layout) (m : List ℕ) → Headed l m → Caps l → total l ≤ length m → TablesOk l m → FamiliesOk l m → SpareOk l m op → SpareOk l m val → Well l m
 well_of l m H C F T G A B = record { caps = C; fits = F; head = H.head; tables = T.all; families = G.all; spare = spare_of l m A B }

@@ -56,13 +56,22 @@ pub fam_part_inj : (f g : Fam) → fam_part f ≡ fam_part g → f ≡ g
 fam_part_inj f g e = sym (back f) ∙ ap (λ (k : ℕ). fam_of (k - 6)) e ∙ back g
   where
     back : (f : Fam) → fam_of (fam_part f - 6) ≡ f
-    back f = elim f [ slots ↦ refl | use_sets ↦ refl | vals ↦ refl | regs ↦ refl | ops_in ↦ refl | blocks_in ↦ refl ]
+    back slots = refl
+    back use_sets = refl
+    back vals = refl
+    back regs = refl
+    back ops_in = refl
+    back blocks_in = refl
 
 pub kind_part_inj : (f g : Kind) → kind_part f ≡ kind_part g → f ≡ g
 kind_part_inj f g e = sym (back f) ∙ ap (λ (k : ℕ). kind_of (k - 1)) e ∙ back g
   where
     back : (f : Kind) → kind_of (kind_part f - 1) ≡ f
-    back f = elim f [ op ↦ refl | blk ↦ refl | reg ↦ refl | val ↦ refl | usg ↦ refl ]
+    back op = refl
+    back blk = refl
+    back reg = refl
+    back val = refl
+    back usg = refl
 
 pub tags_kept : (ps ps' : List (List ℕ)) → get_or ps' 12 [] ≡ get_or ps 12 [] → get_or ps' 13 [] ≡ get_or ps 13 [] → (k : Kind) (p : ℕ) → tag_in ps' k p ≡ tag_in ps k p
 tags_kept ps ps' a b op p = ap (λ (s : List ℕ). get_or s p 0) a

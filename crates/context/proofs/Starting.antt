@@ -33,13 +33,26 @@ module _ (l : Layout) (m : List ℕ) (fits : total l ≤ length m) (z : (i : ℕ
   part_zero k g h = zero-part (sizes l) m fits k h (λ i a b. z i (omega (arith, start_first 5 (drop 1 (sizes l)) k g (omega arith))) b)
 
   size_table : (k : Kind) → get_or (sizes l) (kind_part k) 0 ≡ arena (cap_of l k)
-  size_table k = elim k [ op ↦ refl | blk ↦ refl | reg ↦ refl | val ↦ refl | usg ↦ refl ]
+  size_table op = refl
+  size_table blk = refl
+  size_table reg = refl
+  size_table val = refl
+  size_table usg = refl
 
   size_family : (f : Fam) → get_or (sizes l) (fam_part f) 0 ≡ family (nc_of l f) (nn_of l f)
-  size_family f = elim f [ slots ↦ refl | use_sets ↦ refl | vals ↦ refl | regs ↦ refl | ops_in ↦ refl | blocks_in ↦ refl ]
+  size_family slots = refl
+  size_family use_sets = refl
+  size_family vals = refl
+  size_family regs = refl
+  size_family ops_in = refl
+  size_family blocks_in = refl
 
   cap≤ : Caps l → (k : Kind) → cap_of l k ≤ 16384
-  cap≤ C k = elim k [ op ↦ omega (arith, C.ops) | blk ↦ omega (arith, C.blocks) | reg ↦ omega (arith, C.regions) | val ↦ omega (arith, C.values) | usg ↦ omega (arith, C.uses) ]
+  cap≤ C op = omega (arith, C.ops)
+  cap≤ C blk = omega (arith, C.blocks)
+  cap≤ C reg = omega (arith, C.regions)
+  cap≤ C val = omega (arith, C.values)
+  cap≤ C usg = omega (arith, C.uses)
 
   table_fresh : Caps l → (k : Kind) → Fresh (cap_of l k) (part l m (kind_part k))
   unfolding arena

@@ -30,7 +30,12 @@ head_map k [] = refl
 head_map k (x ∷ l) = refl
 
 pub size_is : (l : Layout) (f : Fam) → get_or (sizes l) (fam_part f) 0 ≡ family (nc_of l f) (nn_of l f)
-size_is l f = elim f [ slots ↦ refl | use_sets ↦ refl | vals ↦ refl | regs ↦ refl | ops_in ↦ refl | blocks_in ↦ refl ]
+size_is l slots = refl
+size_is l use_sets = refl
+size_is l vals = refl
+size_is l regs = refl
+size_is l ops_in = refl
+size_is l blocks_in = refl
 
 module _ (l : Layout) (m : List ℕ) (f : Fam) (r : Span) (W : Well l m) (T : SpanOf l f r) where
   abbrev e : ℕ

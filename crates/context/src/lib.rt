@@ -1,6 +1,7 @@
 // The store in one lent memory: its layout, start, tables, look-ups and the check of its parts. The parts are lent to the lower crates.
 // After context.rs of pliron 0.20.0 (Apache-2.0); the modules are after the files that they are named after.
 #![tactic(auto)]
+
 pub mod lists; // lists.rt: nodes enter and leave lists
 pub mod value; // value.rt: values and uses
 pub mod operation; // operation.rt
@@ -22,7 +23,7 @@ use bits::Found;
 
 // The capacities of the five tables.
 #[repr(C)]
-#[derive(Drop)]
+#[derive(Clone, Copy)]
 pub struct Layout {
     pub ops: usize,
     pub blocks: usize,
@@ -32,7 +33,7 @@ pub struct Layout {
 }
 
 // Where a part stands: a family, with its numbers of containers and of nodes; or a table, with its capacity and its size.
-#[derive(Drop)]
+#[derive(Clone, Copy)]
 pub struct Span {
     pub at: usize,
     pub nc: usize,

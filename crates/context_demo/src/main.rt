@@ -9,14 +9,13 @@ ghost use Rattle.context.specs.Memory.{con, state_of, SoundStore};
 
 use bits::Found;
 use context::Layout;
-use libc::STDOUT_FILENO;
 
 fn say(s: &[u8]) {
-    io::write_all(STDOUT_FILENO, s);
+    io::write_all(1, s);
 }
 
 fn number(n: u32) {
-    io::print_decimal(STDOUT_FILENO, n as u64);
+    io::print_decimal(1, n as u64);
 }
 
 // What a step was, and whether it was done.
@@ -259,7 +258,7 @@ fn print_listing(m: &[u32], l: Layout)
     let mut out = [0u8; 1024];
     let r = listing::write_listing(m, l, &mut out, 0);
     let e = within(&out, r);
-    io::write_all(STDOUT_FILENO, &out[..e]);
+    io::write_all(1, &out[..e]);
 }
 
 // What a reader handed back: the numbers of the uses, or its refusal.

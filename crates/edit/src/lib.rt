@@ -10,14 +10,14 @@ ghost use Rattle.edit.specs.Record.{least, over, filled};
 ghost use Rattle.edit.specs.Taken.{NextCut, Taken, record_kind, fields_of, number_at};
 
 // The answer to one edit: A and B of an accepted edit, or the number of the refusal.
-#[derive(Drop)]
+#[derive(Clone, Copy)]
 pub enum Answer {
     Accepted(u32, u32),
     Refused(u32),
 }
 
 // What stands at a position: no byte, a record that gets refusal 1, or a whole record and where it ends.
-#[derive(Drop)]
+#[derive(Clone, Copy)]
 pub enum Next {
     Nothing,
     Broken,
@@ -25,7 +25,7 @@ pub enum Next {
 }
 
 // A whole record read: refusal 2, 3 or 4, or the kind of the edit that it asks for.
-#[derive(Drop)]
+#[derive(Clone, Copy)]
 pub enum Reading {
     Refused(u32),
     Asks(u32),

@@ -22,7 +22,7 @@ use context::Layout;
 use edit::Answer;
 
 // The tests before an edit: the refusal, or the places of the two things that it names.
-#[derive(Drop)]
+#[derive(Clone, Copy)]
 pub enum Tested {
     No(u32),
     Yes(usize, usize),

@@ -13,7 +13,7 @@ use bits::Found;
 use context::Layout;
 
 // What a reader is told: how many numbers stand in front of its buffer, or the refusal.
-#[derive(Drop)]
+#[derive(Clone, Copy)]
 pub enum Uses {
     Filled(usize),
     Refused(u32),

@@ -6,7 +6,7 @@ ghost use Rattle.seqs.specs.Seqs.{Says};
 ghost use Rattle.replay.specs.Same.{Starts};
 
 // What became of an entry: there is none, it is as it must be, or not.
-#[derive(Drop)]
+#[derive(Clone, Copy)]
 pub enum Outcome {
     End,
     Same,

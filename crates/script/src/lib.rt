@@ -12,14 +12,14 @@ use context::Layout;
 use edit::{Answer, Next, Reading};
 
 // How a script ended: `code` is 6 or 22 where that stopped it, and else 0; `count` answers were written.
-#[derive(Drop)]
+#[derive(Clone, Copy)]
 pub struct Ran {
     pub code: u32,
     pub count: usize,
 }
 
 // What a record does to a script: it ends before the record, with a number; the record was its last; it goes on at a byte.
-#[derive(Drop)]
+#[derive(Clone, Copy)]
 pub enum Step {
     Stop(u32),
     Last,

@@ -139,7 +139,7 @@ fn fill(store: &mut [u32]) {
 }
 
 // What became of a damaged store. A change that leaves the word as it was is no damage.
-#[derive(Drop)]
+#[derive(Clone, Copy)]
 enum Outcome {
     Same,
     Refused,
@@ -209,7 +209,7 @@ fn swap(m: &mut [u32], i: usize) -> Outcome {
     o
 }
 
-#[derive(Drop)]
+#[derive(Clone, Copy)]
 struct Counts {
     refused: usize,
     sound: usize,

@@ -24,7 +24,7 @@ use context::Layout;
 use edit::Answer;
 
 // What a walk over the nest counts: operations freed and uses ended.
-#[derive(Drop)]
+#[derive(Clone, Copy)]
 pub struct Tally {
     pub freed: u32,
     pub ended: u32,

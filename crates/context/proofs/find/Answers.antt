@@ -1,0 +1,21 @@
+use Rattle.context.proofs.Books.{packed, finds}
+use Rattle.context.specs.Layout.{kind_of}
+use borrow.Author.Rules.{rules}
+use Rattle.context.proofs.find.Goals as goal
+
+-- ??? part-find-start : tie.Need-slice-bounds-find-start
+-- part-find-start c = search rules
+
+-- ??? part-find-end : tie.Need-slice-bounds-find-end
+-- part-find-end c = search rules
+
+pub find-requires : goal.find-requires
+find-requires c =
+    let r = c.table_span-s in
+    packed c.args.l c.args.m.now (kind_of c.args.k) r.result c.requires r.ensures
+
+pub returns : goal.returns
+returns c =
+    let r = c.table_span-s in
+    let u = c.find in
+    finds c.args.l c.args.m.now (kind_of c.args.k) r.result c.requires r.ensures c.args.number u.result u.ensures

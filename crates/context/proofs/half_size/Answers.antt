@@ -1,0 +1,7 @@
+use Rattle.context.specs.Layout.{arena}
+use borrow.Author.Rules.{rules}
+use Rattle.context.proofs.half_size.Goals as goal
+
+pub returns : goal.returns
+unfolding arena
+returns c = search rules

@@ -1,0 +1,23 @@
+use Rattle.context.proofs.Thin.{length_asked}
+use Rattle.context.proofs.Neighbours.{last_is}
+use Rattle.context.specs.Layout.{fam_of}
+use mathlib.Core.Path.{◌∙◌}
+use borrow.Author.Rules.{rules}
+use Rattle.context.proofs.last_of.Goals as goal
+
+-- ??? part-get-tail-start : tie.Need-slice-bounds-get-tail-start
+-- part-get-tail-start c = search rules
+
+-- ??? part-get-tail-end : tie.Need-slice-bounds-get-tail-end
+-- part-get-tail-end c = search rules
+
+pub get_tail-requires : goal.get_tail-requires
+get_tail-requires c =
+    let r = c.family_span-s in
+    let asked = length_asked c.args.l c.args.m.now (fam_of c.args.f) r.result c.requires.well r.ensures c.args.k c.requires.k_bound in
+    record { sizes = asked.0; linked = asked.1.0; c_lt_nc = asked.1.1 }
+
+pub returns : goal.returns
+returns c =
+    let r = c.family_span-s in
+    last_is c.args.l c.args.m.now (fam_of c.args.f) r.result c.requires.well r.ensures c.args.k c.wide.result (c.wide.ensures ∙ c.get_tail.ensures)

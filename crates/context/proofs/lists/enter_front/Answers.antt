@@ -1,0 +1,22 @@
+use Rattle.context.specs.Layout.{fam_of}
+use Rattle.context.proofs.Thin.{enter_asked, entered_at}
+use borrow.Author.Rules.{rules}
+use Rattle.context.proofs.lists.enter_front.Goals as goal
+
+-- ??? part-insert-at-front-start : tie.Need-slice-bounds-insert-at-front-start
+-- part-insert-at-front-start c = search rules
+
+-- ??? part-insert-at-front-end : tie.Need-slice-bounds-insert-at-front-end
+-- part-insert-at-front-end c = search rules
+
+pub insert_at_front-requires : goal.insert_at_front-requires
+insert_at_front-requires c =
+    let r = c.family_span-s in
+    let asked = enter_asked c.args.l c.args.m.now (fam_of c.args.f) r.result c.requires.well r.ensures c.args.k c.args.n c.requires.k_bound c.requires.f_value in
+    record { sizes = asked.0; linked = asked.1.0; c_lt_nc = asked.1.1.0; n_value = asked.1.1.1 }
+
+pub returns : goal.returns
+returns c =
+    let r = c.family_span-s in
+    let u = c.insert_at_front in
+    entered_at c.args.l c.args.m.now (fam_of c.args.f) r.result c.requires.well r.ensures u.new.s u.auto.s c.args.k 0 c.args.n u.ensures

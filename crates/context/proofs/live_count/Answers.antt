@@ -1,0 +1,21 @@
+use Rattle.context.proofs.Books.{packed, live_is}
+use Rattle.context.specs.Layout.{kind_of}
+use borrow.Author.Rules.{rules}
+use Rattle.context.proofs.live_count.Goals as goal
+
+-- ??? part-taken-start : tie.Need-slice-bounds-taken-start
+-- part-taken-start c = search rules
+
+-- ??? part-taken-end : tie.Need-slice-bounds-taken-end
+-- part-taken-end c = search rules
+
+pub taken-requires : goal.taken-requires
+taken-requires c =
+    let r = c.table_span-s in
+    packed c.args.l c.args.m.now (kind_of c.args.k) r.result c.requires r.ensures
+
+pub returns : goal.returns
+returns c =
+    let r = c.table_span-s in
+    let u = c.taken in
+    live_is c.args.l c.args.m.now (kind_of c.args.k) r.result c.requires r.ensures u.result u.ensures

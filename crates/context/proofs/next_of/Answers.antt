@@ -1,0 +1,21 @@
+use Rattle.context.proofs.Neighbours.{node_asked, next_is}
+use Rattle.context.specs.Layout.{fam_of}
+use borrow.Author.Rules.{rules}
+use Rattle.context.proofs.next_of.Goals as goal
+
+-- ??? part-get-next-start : tie.Need-slice-bounds-get-next-start
+-- part-get-next-start c = search rules
+
+-- ??? part-get-next-end : tie.Need-slice-bounds-get-next-end
+-- part-get-next-end c = search rules
+
+pub get_next-requires : goal.get_next-requires
+get_next-requires c =
+    let r = c.family_span-s in
+    let asked = node_asked c.args.l c.args.m.now (fam_of c.args.f) r.result c.requires.well r.ensures c.args.n c.requires.n_bound in
+    record { sizes = asked.0; linked = asked.1.0; n_lt_nn = asked.1.1 }
+
+pub returns : goal.returns
+returns c =
+    let r = c.family_span-s in
+    next_is c.args.l c.args.m.now (fam_of c.args.f) r.result c.requires.well r.ensures c.args.n c.requires.n_bound c.wide.result c.get_next.result c.wide.ensures c.get_next.ensures

@@ -1,0 +1,16 @@
+use Rattle.context.proofs.Tags.{tagged}
+use Rattle.context.specs.Layout.{flags}
+use borrow.Author.Rules.{rules}
+use Rattle.context.proofs.operation.put_flags.Goals as goal
+
+-- ??? part-put-cell-start : tie.Need-slice-bounds-put-cell-start
+-- part-put-cell-start c = search rules
+
+-- ??? part-put-cell-end : tie.Need-slice-bounds-put-cell-end
+-- part-put-cell-end c = search rules
+
+pub returns : goal.returns
+returns c =
+    let f = c.flags_at-a in
+    let u = c.put_cell in
+    tagged flags c.args.l c.args.m.now f.result c.requires.well f.ensures c.args.p c.args.v u.new.s u.auto.s c.requires.p_lt_ops c.requires.may_tag u.ensures

@@ -1,0 +1,21 @@
+use Rattle.context.proofs.Thin.{length_asked, length_is}
+use Rattle.context.specs.Layout.{fam_of}
+use borrow.Author.Rules.{rules}
+use Rattle.context.proofs.row_length.Goals as goal
+
+-- ??? part-count-start : tie.Need-slice-bounds-count-start
+-- part-count-start c = search rules
+
+-- ??? part-count-end : tie.Need-slice-bounds-count-end
+-- part-count-end c = search rules
+
+pub count-requires : goal.count-requires
+count-requires c =
+    let r = c.family_span-s in
+    let asked = length_asked c.args.l c.args.m.now (fam_of c.args.f) r.result c.requires.well r.ensures c.args.k c.requires.k_bound in
+    record { sizes = asked.0; linked = asked.1.0; c_lt_nc = asked.1.1 }
+
+pub returns : goal.returns
+returns c =
+    let r = c.family_span-s in
+    length_is c.args.l c.args.m.now (fam_of c.args.f) r.result c.requires.well r.ensures c.args.k c.count.result c.count.ensures

@@ -1,0 +1,15 @@
+use Rattle.context.proofs.Tags.{tag_read}
+use Rattle.context.specs.Layout.{types}
+use borrow.Author.Rules.{rules}
+use Rattle.context.proofs.value.type_of.Goals as goal
+
+-- ??? part-get-cell-start : tie.Need-slice-bounds-get-cell-start
+-- part-get-cell-start c = search rules
+
+-- ??? part-get-cell-end : tie.Need-slice-bounds-get-cell-end
+-- part-get-cell-end c = search rules
+
+pub returns : goal.returns
+returns c =
+    let f = c.types_at-a in
+    tag_read types c.args.l c.args.m.now f.result c.requires.well f.ensures c.args.p c.get_cell.result c.get_cell.ensures

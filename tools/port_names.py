@@ -83,6 +83,7 @@ NAMED_IN = {
     "crates/walk/proofs/": {"first-is": "IsFirstTold", "next-is": "IsNextTold", "list-of": "list_of_lem"},
     "crates/walk/proofs/JudgeLaws.antt": {"next-is": "next_is"},
     "crates/context/": {"kind-of": "kind_of_lem"},
+    "crates/listing/": {"kind-of": "kind_of_lem"},
     "crates/links/": {"state-of": "state_of_lem", "block-of": "block_of_lem"},
     "crates/uses/": {"block-of": "block_of_lem"},
 }
@@ -141,6 +142,7 @@ def turn_tokens(text, names, typed, token=TOKEN):
         t = m.group(0)
         return typed.get(t) or names.get(t) or t
 
+    text = re.sub(rf"«({NAME})»", lambda m: names.get(m.group(1), m.group(0)), text)
     return token.sub(word, text)
 
 

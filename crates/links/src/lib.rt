@@ -2,6 +2,7 @@
 // (linked_list.rs, operation.rs, basic_block.rs, region.rs; Apache-2.0).
 // `w` tells what is put into what: 0 for an operation in a block, 1 for a block in a region.
 #![tactic(auto)]
+
 ghost use Rattle.std.specs.Prelude.{◌≡◌, suc, ◌+◌, ◌≤◌, ◌<◌};
 ghost use Rattle.seqs.specs.Seqs.{count};
 ghost use Rattle.table.specs.Table.{Says};

@@ -21,7 +21,7 @@ use Rattle.context.specs.Layout.{nn_of}
 use Rattle.context.specs.Memory.{con, state_of, SoundStore, head_code}
 use Rattle.context.specs.Reading.{list_of, NextIs}
 use Rattle.context.proofs.Families.{con_back}
-use Rattle.context.proofs.Neighbours.{record_kind}
+use Rattle.context.proofs.Neighbours.{kind_of_lem}
 use Rattle.context.proofs.Places.{place<}
 use Rattle.listing.specs.Writer.{Pen, write, Written}
 use Rattle.listing.specs.Lines.{node_text, row_text, numbers_among}
@@ -70,7 +70,7 @@ module _ {l : Layout} {m : List ℕ} (S : SoundStore l m) (f : Fam) (k i c : ℕ
       link = S.sound.linked.link x f (con l f k) owned
 
       is : x ≡ (node_in f, c - 1)
-      is = thing_eq x (node_in f, c - 1) (link.node ∙ record_kind S.well f k) (omega (arith, code))
+      is = thing_eq x (node_in f, c - 1) (link.node ∙ kind_of_lem S.well f k) (omega (arith, code))
 
   -- what follows
   pub next_here : (r : ℕ) → Here l m f k i c → NextIs l f (c - 1) m r → r ≡ head_code (drop (i + 1) L)

@@ -1,12 +1,13 @@
 // The listing of a store and of answers, as text in a lent buffer. What does not fit is left out; the position that a function
 // hands back stops at the buffer's end.
 #![tactic(auto)]
+
 ghost use Rattle.std.specs.Prelude.{◌≡◌, [], ◌∷◌, ◌++◌, ◌+◌, ◌*◌, ◌≤◌, ◌<◌, length, get_or};
 ghost use Rattle.places.specs.Store.{Live, op, blk, reg, val, usg, use_sets};
 ghost use Rattle.places.specs.View.{num};
 ghost use Rattle.places.specs.Parts.{node_in};
 ghost use Rattle.rules.specs.Table.{find};
-ghost use Rattle.rules.specs.Step.{«definition-number»};
+ghost use Rattle.rules.specs.Step.{definition_number};
 ghost use Rattle.rules.specs.Listing as rules;
 ghost use Rattle.context.specs.Layout.{kind_of, fam_of, nc_of};
 ghost use Rattle.context.specs.Memory.{con, state_of, SoundStore};
@@ -81,7 +82,7 @@ fn put_field(word: &[u8], n: u32, out: &mut [u8], at: usize) -> usize
 fn definition_of(m: &[u32], l: Layout, u: usize) -> u32
     requires sound_store { SoundStore l m.now }
     requires live { Live (state_of l m.now) (usg, u) }
-    ensures { result ≡ «definition-number» (find (abs l m.now).history.uses (num (state_of l m.now) (usg, u))) }
+    ensures { result ≡ definition_number (find (abs l m.now).history.uses (num (state_of l m.now) (usg, u))) }
 {
     let h = context::home_of(m, l, 1, u);
     let d = h - 1;

@@ -309,6 +309,10 @@ module _ (C : Cells) (M : Parts) (W : Reads C M) where
     short_by results of_results k = by_cases (dec_lt k (conts C.cap vals)) (λ h. X.short_vals k h) (λ n. omega (arith, W.beyond vals k (omega arith)))
     short_by arguments of_arguments k = by_cases (dec_lt k (conts C.cap vals)) (λ h. X.short_vals k h) (λ n. omega (arith, W.beyond vals k (omega arith)))
     short_by regions of_regions k = by_cases (dec_lt k (conts C.cap regs)) (λ h. X.short_regs k h) (λ n. omega (arith, W.beyond regs k (omega arith)))
+    short_by value_uses m k = elim m [ ]
+    short_by block_uses m k = elim m [ ]
+    short_by ops m k = elim m [ ]
+    short_by blocks m k = elim m [ ]
 
     short : (a : Thing) (r : Role) → Limited r → length (P.list a r) ≤ 64
     short a r m = by_cases (Con-dec (R.con (fam r) (R.row r a.1)) (r, a))

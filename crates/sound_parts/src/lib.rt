@@ -1,5 +1,6 @@
 // The check of a whole store, over its parts.
 #![tactic(auto)]
+
 ghost use Rattle.std.specs.Prelude.{◌≡◌, ◌+◌, ◌*◌, ◌≤◌, ◌<◌, length, get_or};
 ghost use Rattle.table.specs.Table.{Says, Shape};
 ghost use Rattle.linked_list.specs.Links.{Sizes, Linked, home};

@@ -1,6 +1,7 @@
 // Edits on uses: push, insert, replace, remove and pop for operands and successors; the move of one use, or of listed ones, to another definition.
 // Ported from pliron 0.20.0 (src/operation.rs, src/value.rs), Apache-2.0.
 #![tactic(auto)]
+
 ghost use Rattle.std.specs.Prelude.{◌≡◌, ◌<◌, ◌≢◌, length, drop, replicate};
 ghost use Rattle.edit.specs.Record.{push_use, insert_use, replace_use, remove_use, pop_use, move_use, operand, successor};
 ghost use Rattle.edit.specs.Taken.{fields_of, edit_of};

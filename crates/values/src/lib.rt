@@ -2,6 +2,7 @@
 // Ported from pliron 0.20.0 (src/operation.rs, src/basic_block.rs, src/value.rs), Apache-2.0.
 // `w` tells the owner: 0 for an operation, 1 for a block.
 #![tactic(auto)]
+
 ghost use Rattle.std.specs.Prelude.{◌≡◌, ◌+◌, ◌-◌, ◌<◌, length};
 ghost use Rattle.edit.specs.Record.{push_value, insert_value, remove_value, pop_value};
 ghost use Rattle.places.specs.Store.{vals};

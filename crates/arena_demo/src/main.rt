@@ -1,6 +1,7 @@
 // An arena at its limits: one place, all 16,384, a freed place taken again, the last birth number, numbers that are not found, and
 // damaged slices. Each step checks the slice that it is handed, and asks for nothing that the arena does not have.
 #![tactic(auto)]
+
 ghost use Rattle.arena.specs.Packed.{Packed};
 
 use bits::Found;

@@ -2,6 +2,7 @@
 // the argument twice; the operation comes into the block, one operand ends, and the operation's own result becomes an operand.
 // Prints the words of the store, part by part, its listing, and the parts that the readers hand back.
 #![tactic(auto)]
+
 ghost use Rattle.std.specs.Prelude.{◌≤◌, ◌<◌, length};
 ghost use Rattle.places.specs.Store.{vals, Live};
 ghost use Rattle.context.specs.Layout.{nc_of};

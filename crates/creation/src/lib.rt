@@ -1,6 +1,7 @@
 // Edits that make things: a new block with its arguments, a new operation with its results, operands, successors and regions.
 // Ported from pliron 0.20.0 (src/operation.rs, src/basic_block.rs), Apache-2.0.
 #![tactic(auto)]
+
 ghost use Rattle.std.specs.Prelude.{◌≡◌, true, false, ◌+◌, ◌-◌, ◌*◌, ◌≤◌, ◌<◌, length};
 ghost use Rattle.table.specs.Table.{Says};
 ghost use Rattle.edit.specs.Taken.{fields_of, edit_of, Passed};

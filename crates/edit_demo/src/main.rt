@@ -1,5 +1,6 @@
 // Edit records at their limits, one line each: what is found at the start of the bytes, and what the record is read as.
 #![tactic(auto)]
+
 ghost use Rattle.std.specs.Prelude.{◌≤◌, ◌<◌, length};
 
 use edit::{Answer, Next, Reading};

@@ -1,5 +1,6 @@
 // One edit record, put to a sound store: by its kind, to the function that carries it out.
 #![tactic(auto)]
+
 ghost use Rattle.std.specs.Prelude.{◌+◌, ◌≤◌};
 ghost use Rattle.edit.specs.Taken.{Passed, fields_of, edit_of};
 ghost use Rattle.edit.specs.ByKind.{use_kinds, value_kinds, link_kinds};

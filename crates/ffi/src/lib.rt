@@ -1,5 +1,6 @@
 // The store for C and Rust: each exported function is a thin one over the crates below. A slice is a pointer and a count of elements.
 #![tactic(auto)]
+
 ghost use Rattle.std.specs.Prelude.{◌≡◌, ◌≤◌, length};
 ghost use Rattle.seqs.specs.Seqs.{Says};
 ghost use Rattle.edit.specs.Answer.{numbers_of};

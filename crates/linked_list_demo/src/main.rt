@@ -8,6 +8,7 @@
 //
 // A step whose requirements do not hold is refused: `act` tests each of them.
 #![tactic(auto)]
+
 ghost use Rattle.std.specs.Prelude.{◌≡◌, ◌+◌, ◌*◌, ◌<◌, ◌≤◌, length};
 ghost use Rattle.linked_list.specs.Links.{Sizes, Linked};
 

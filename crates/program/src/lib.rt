@@ -1,5 +1,6 @@
 // What a program over the store does: it reads a script, runs it over an empty store, and prints the answers and the listing.
 #![tactic(auto)]
+
 ghost use Rattle.std.specs.Prelude.{◌≡◌, length};
 ghost use Rattle.rules.specs.Listing.{printed, output};
 ghost use Rattle.listing.specs.Writer.{Written};

@@ -1,5 +1,6 @@
 // The uses of a value or a block, for a reader: their numbers, rising, in the caller's own buffer.
 #![tactic(auto)]
+
 ghost use Rattle.std.specs.Prelude.{◌≡◌, [], ◌∷◌, ◌+◌, ◌<◌, length, get_or};
 ghost use Rattle.places.specs.Store.{Live, usg, use_sets};
 ghost use Rattle.context.specs.Layout.{nc_of};

@@ -1,6 +1,7 @@
 // Replays recorded scripts: standard input is a sequence of entries, each a script and what the published Rust's listing of it
 // is (differential/README.md has the form). Prints how many entries there are and how many differ.
 #![tactic(auto)]
+
 ghost use Rattle.std.specs.Prelude.{◌≤◌};
 ghost use Rattle.seqs.specs.Seqs.{Says};
 ghost use Rattle.replay.specs.Same.{Starts};

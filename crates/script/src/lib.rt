@@ -1,5 +1,6 @@
 // The public entry points of a store in one lent buffer: a single edit, and a script of edits.
 #![tactic(auto)]
+
 ghost use Rattle.std.specs.Prelude.{◌≡◌, ◌+◌, ◌/◌, ◌≤◌, ◌<◌, length, replicate};
 ghost use Rattle.edit.specs.Record.{asks, read};
 ghost use Rattle.edit.specs.Taken.{Passed, record_kind, fields_of, edit_of};

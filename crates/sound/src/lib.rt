@@ -1,5 +1,6 @@
 // The check of one lent buffer: each part by itself, then what the parts say of each other.
 #![tactic(auto)]
+
 ghost use Rattle.seqs.specs.Seqs.{Says};
 ghost use Rattle.places.specs.Store.{Sound};
 ghost use Rattle.context.specs.Memory.{layout_of, state_of, Well, SoundStore};

@@ -1,5 +1,6 @@
 // A sound store with every part of its layout in use, each word of which is damaged in turn: what the check says, by part.
 #![tactic(auto)]
+
 use context::Layout;
 use edit::Answer;
 use libc::STDOUT_FILENO;

@@ -1,6 +1,7 @@
 // Dropping, erasing and verdicts: walks over the nest of operations, regions and blocks.
 // Ported from pliron 0.20.0 (Apache-2.0): drop_all_uses, erase and verify of src/operation.rs, src/basic_block.rs and src/region.rs.
 #![tactic(auto)]
+
 ghost use Rattle.std.specs.Prelude.{◌≡◌, ◌||◌, ◌≤◌, ◌<◌, length};
 ghost use Rattle.places.specs.Store.{op, blk, reg, usg, use_sets, vals, Live, up};
 ghost use Rattle.places.specs.Hist.{thing_named};

@@ -17,7 +17,7 @@ returns-then-n-lt10 t c =
     same_text (ap (λ (b : ℕ). b ∷ []) c.digit.ensures ∙ sym (one_digit c.args.k c.args.n c.if-k-eq0.false c.if-n-lt10.true)) c.put_byte.ensures
 
 pub put_digits-a-requires : goal.put_digits-a-requires
-put_digits-a-requires t c = tt
+put_digits-a-requires t c = (omega (arith, c.decreases, c.if-k-eq0.false), tt)
 
 pub digit-requires-2 : goal.digit-requires-2
 digit-requires-2 t c = omega arith

@@ -2,10 +2,6 @@ pub mod Nested
 pub mod DropLaws
 pub mod DropWalk
 pub mod Asked
-pub mod Lending
-pub mod Loans
-pub mod DropLoop
-pub mod DropNest
 pub mod OwnUses
 pub mod JudgeLaws
 pub mod Search

@@ -47,7 +47,7 @@ pub search-preserved : goal.search-preserved
 search-preserved c = (c.loop-c.invariant.0, (omega arith, λ d l. c.loop-c.invariant.1.1.1 d (omega arith)))
 
 pub returns-after-search : goal.returns-after-search
-returns-after-search c = let a = c.args in says_of c.search.type-inv (Slots a.o a.b a.v a.u a.to.now a.tu.now a.slots.now a.sets.now) c.search.invariant.0 (λ d l. c.search.invariant.1.1 d (omega arith))
+returns-after-search c = let a = c.args in says_of c.search.ok (Slots a.o a.b a.v a.u a.to.now a.tu.now a.slots.now a.sets.now) c.search.invariant.0 (λ d l. c.search.invariant.1.1 d (omega arith))
 
 pub returns-then-j-ge64 : goal.returns-then-j-ge64
 returns-then-j-ge64 c = let a = c.args in let y = c.loop-c.c in let p = c.loop-k in

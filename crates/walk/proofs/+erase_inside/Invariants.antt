@@ -10,8 +10,8 @@ use Rattle.places.proofs.Runs.{measure}
 use Rattle.walk.proofs.EraseWalk.{Going, inner≤, inner_list, started, started_live, finished, size_kept, can_end, child_can, child_less, after_live, turn, fewer}
 use Rattle.walk.proofs.+erase_inside.Given as goal
 
--- abbrev μ-erase-inside : Measures 1 erase-inside-kinds.ps ℕ
--- μ-erase-inside κs a = measure (state_of a.1.0 a.0.now) (kind_of a.1.1.0, a.1.1.1.0)
+abbrev pub decreases-erase_inside : goal.decreases-erase_inside
+decreases-erase_inside l = measure (state_of l.l l.m.now) (kind_of l.k, l.p)
 
 abbrev pub invariant-loop-c : goal.invariant-loop-c
 invariant-loop-c l = Going l.l (kind_of l.k, l.p) l.initial.m l.m l.c × (length l.m ≡ length l.initial.m)

@@ -1,3 +1,4 @@
+use mathlib.Core.Bool.{not}
 use borrow.Author.Rules.{rules}
 use mathlib.Core.Path.{sym, ap, ◌∙◌}
 use Prim.Native.Nat.{ℕ, ◌<◌}
@@ -20,7 +21,7 @@ verify_block-judge_block-a-requires t c =
 
 pub verify_block-returns-then-not-c : goal.verify_block-returns-then-not-c
 verify_block-returns-then-not-c t c =
-    block_self c.requires.0 c.args.b c.judge_block-a.result c.judge_block-a.ensures.is (sym c.is_clean-c.ensures ∙ nay c.is_clean-c.result c.if-not-c.true)
+    block_self c.requires.0 c.args.b c.judge_block-a.result c.judge_block-a.ensures.is (sym c.is_clean-c.ensures ∙ nay c.is_clean-c.result (ap not c.if-not-c.true))
 
 pub verify_block-first_of-k-requires : goal.verify_block-first_of-k-requires
 verify_block-first_of-k-requires t c = record { well = c.requires.0.well; k_bound = row< (in_block c.args.l c.args.b) c.requires.0 c.requires.1 }
@@ -35,7 +36,7 @@ verify_block-verify_operation-v-requires t c =
 
 pub verify_block-returns-then-not-g : goal.verify_block-returns-then-not-g
 verify_block-returns-then-not-g t c =
-    block_hit c.requires.0 c.args.b c.judge_block-a.result c.verify_operation-v.result c.judge_block-a.ensures.is (sym c.is_clean-c.ensures ∙ yea c.is_clean-c.result c.if-not-c.false) c.loop-k.invariant c.loop-k-test.true c.verify_operation-v.ensures (sym c.is_clean-g.ensures ∙ nay c.is_clean-g.result c.if-not-g.true)
+    block_hit c.requires.0 c.args.b c.judge_block-a.result c.verify_operation-v.result c.judge_block-a.ensures.is (sym c.is_clean-c.ensures ∙ yea c.is_clean-c.result (ap not c.if-not-c.false)) c.loop-k.invariant c.loop-k-test.true c.verify_operation-v.ensures (sym c.is_clean-g.ensures ∙ nay c.is_clean-g.result (ap not c.if-not-g.true))
 
 pub verify_block-next_of-k-requires : goal.verify_block-next_of-k-requires
 verify_block-next_of-k-requires t c = record { well = c.requires.0.well; n_bound = (here c.requires.0 c.loop-k.invariant.at c.loop-k-test.true).place }
@@ -46,11 +47,11 @@ verify_block-loop-k-smaller t c =
 
 pub verify_block-loop-k-preserved : goal.verify_block-loop-k-preserved
 verify_block-loop-k-preserved t c =
-    on c.requires.0 c.loop-k.invariant c.loop-k-test.true (ap is_clean (sym c.verify_operation-v.ensures.is) ∙ sym c.is_clean-g.ensures ∙ yea c.is_clean-g.result c.if-not-g.false) c.next_of-k.result c.next_of-k.ensures
+    on c.requires.0 c.loop-k.invariant c.loop-k-test.true (ap is_clean (sym c.verify_operation-v.ensures.is) ∙ sym c.is_clean-g.ensures ∙ yea c.is_clean-g.result (ap not c.if-not-g.false)) c.next_of-k.result c.next_of-k.ensures
 
 pub verify_block-returns : goal.verify_block-returns
 verify_block-returns t c =
-    block_end c.requires.0 c.args.b c.judge_block-a.result c.judge_block-a.ensures.is (sym c.is_clean-c.ensures ∙ yea c.is_clean-c.result c.if-not-c.false) c.loop-k.invariant c.loop-k-test.false
+    block_end c.requires.0 c.args.b c.judge_block-a.result c.judge_block-a.ensures.is (sym c.is_clean-c.ensures ∙ yea c.is_clean-c.result (ap not c.if-not-c.false)) c.loop-k.invariant c.loop-k-test.false
 
 pub verify_operation-first_of-k-requires : goal.verify_operation-first_of-k-requires
 verify_operation-first_of-k-requires t c = record { well = c.requires.0.well; k_bound = row< (in_op c.args.l c.args.o) c.requires.0 c.requires.1 }
@@ -59,18 +60,13 @@ pub verify_operation-loop-k-init : goal.verify_operation-loop-k-init
 verify_operation-loop-k-init t c =
     meeting _ c.first_of-k.result c.first_of-k.ensures
 
-verify-operation-verify-region-requires :
-    (t : ℕ) → verify-operation-lts.Need-verify-region-requires (verify-operation-claims t)
-    (verify-operation-at t)
-    verify-operation.Post
-    verify-operation-Inv-loop
-    verify-operation-μ-loop
-verify-operation-verify-region-requires t c κs =
-    (omega (arith, c.before.before.before.before.requires.0, kid_falls (in_op c.before.before.before.before.args.l c.before.before.before.before.args.o) c.before.before.before.before.requires.1.0 c.before.loop.invariant.at c.loop-test.true), (c.before.before.before.before.requires.1.0, (here c.before.before.before.before.requires.1.0 c.before.loop.invariant.at c.loop-test.true).live))
+pub verify_operation-verify_region-v-requires : goal.verify_operation-verify_region-v-requires
+verify_operation-verify_region-v-requires t c =
+    (omega (arith, c.decreases, kid_falls (in_op c.args.l c.args.o) c.requires.0 c.loop-k.invariant.at c.loop-k-test.true), (c.requires.0, (here c.requires.0 c.loop-k.invariant.at c.loop-k-test.true).live))
 
 pub verify_operation-returns-then-not-g : goal.verify_operation-returns-then-not-g
 verify_operation-returns-then-not-g t c =
-    op_hit c.requires.0 c.args.o c.verify_region-v.result c.requires.1 c.loop-k.invariant c.loop-k-test.true c.verify_region-v.ensures (sym c.is_clean-g.ensures ∙ nay c.is_clean-g.result c.if-not-g.true)
+    op_hit c.requires.0 c.args.o c.verify_region-v.result c.requires.1 c.loop-k.invariant c.loop-k-test.true c.verify_region-v.ensures (sym c.is_clean-g.ensures ∙ nay c.is_clean-g.result (ap not c.if-not-g.true))
 
 pub verify_operation-next_of-k-requires : goal.verify_operation-next_of-k-requires
 verify_operation-next_of-k-requires t c = record { well = c.requires.0.well; n_bound = (here c.requires.0 c.loop-k.invariant.at c.loop-k-test.true).place }
@@ -81,7 +77,7 @@ verify_operation-loop-k-smaller t c =
 
 pub verify_operation-loop-k-preserved : goal.verify_operation-loop-k-preserved
 verify_operation-loop-k-preserved t c =
-    on c.requires.0 c.loop-k.invariant c.loop-k-test.true (ap is_clean (sym c.verify_region-v.ensures.is) ∙ sym c.is_clean-g.ensures ∙ yea c.is_clean-g.result c.if-not-g.false) c.next_of-k.result c.next_of-k.ensures
+    on c.requires.0 c.loop-k.invariant c.loop-k-test.true (ap is_clean (sym c.verify_region-v.ensures.is) ∙ sym c.is_clean-g.ensures ∙ yea c.is_clean-g.result (ap not c.if-not-g.false)) c.next_of-k.result c.next_of-k.ensures
 
 pub verify_operation-judge_end-requires : goal.verify_operation-judge_end-requires
 verify_operation-judge_end-requires t c =
@@ -104,7 +100,7 @@ verify_region-verify_block-v-requires t c =
 
 pub verify_region-returns-then-not-g : goal.verify_region-returns-then-not-g
 verify_region-returns-then-not-g t c =
-    region_hit c.requires.0 c.args.r c.verify_block-v.result c.loop-k.invariant c.loop-k-test.true c.verify_block-v.ensures (sym c.is_clean-g.ensures ∙ nay c.is_clean-g.result c.if-not-g.true)
+    region_hit c.requires.0 c.args.r c.verify_block-v.result c.loop-k.invariant c.loop-k-test.true c.verify_block-v.ensures (sym c.is_clean-g.ensures ∙ nay c.is_clean-g.result (ap not c.if-not-g.true))
 
 pub verify_region-next_of-k-requires : goal.verify_region-next_of-k-requires
 verify_region-next_of-k-requires t c = record { well = c.requires.0.well; n_bound = (here c.requires.0 c.loop-k.invariant.at c.loop-k-test.true).place }
@@ -115,7 +111,7 @@ verify_region-loop-k-smaller t c =
 
 pub verify_region-loop-k-preserved : goal.verify_region-loop-k-preserved
 verify_region-loop-k-preserved t c =
-    on c.requires.0 c.loop-k.invariant c.loop-k-test.true (ap is_clean (sym c.verify_block-v.ensures.is) ∙ sym c.is_clean-g.ensures ∙ yea c.is_clean-g.result c.if-not-g.false) c.next_of-k.result c.next_of-k.ensures
+    on c.requires.0 c.loop-k.invariant c.loop-k-test.true (ap is_clean (sym c.verify_block-v.ensures.is) ∙ sym c.is_clean-g.ensures ∙ yea c.is_clean-g.result (ap not c.if-not-g.false)) c.next_of-k.result c.next_of-k.ensures
 
 pub verify_region-returns : goal.verify_region-returns
 verify_region-returns t c =

@@ -1,4 +1,5 @@
-use mathlib.Core.Path.{sym, ◌∙◌}
+use mathlib.Core.Bool.{not}
+use mathlib.Core.Path.{ap, sym, ◌∙◌}
 use Rattle.places.specs.Store.{blk}
 use Rattle.context.proofs.Places.{place<}
 use Rattle.walk.proofs.JudgeLaws.{last_some, leads_empty, leads_no, leads_yes}
@@ -18,7 +19,7 @@ is_terminator-t-requires c =
 
 pub returns-then-not-t : goal.returns-then-not-t
 returns-then-not-t c =
-    leads_no c.requires.0 c.args.b c.args.p c.last_of-k.result c.last_of-k.ensures c.if-k-eq0.false (sym c.is_terminator-t.ensures ∙ nay c.is_terminator-t.result c.if-not-t.true)
+    leads_no c.requires.0 c.args.b c.args.p c.last_of-k.result c.last_of-k.ensures c.if-k-eq0.false (sym c.is_terminator-t.ensures ∙ nay c.is_terminator-t.result (ap not c.if-not-t.true))
 
 pub names_block-requires : goal.names_block-requires
 names_block-requires c =
@@ -26,4 +27,4 @@ names_block-requires c =
 
 pub returns : goal.returns
 returns c =
-    c.names_block.ensures ∙ leads_yes c.requires.0 c.args.b c.args.p c.last_of-k.result c.last_of-k.ensures c.if-k-eq0.false (sym c.is_terminator-t.ensures ∙ yea c.is_terminator-t.result c.if-not-t.false)
+    c.names_block.ensures ∙ leads_yes c.requires.0 c.args.b c.args.p c.last_of-k.result c.last_of-k.ensures c.if-k-eq0.false (sym c.is_terminator-t.ensures ∙ yea c.is_terminator-t.result (ap not c.if-not-t.false))

@@ -2,7 +2,7 @@
 use mathlib.Core.Path.{◌≡◌, refl, sym, ap, ap₂, ◌∙◌}
 use mathlib.Core.Bool.{Bool, true, false, ◌||◌}
 use mathlib.Core.List.{List}
-use Prim.Native.Nat.{ℕ, ◌-◌, ◌<◌}
+use Prim.Native.Nat.{ℕ, ◌-◌, ◌≤◌, ◌<◌}
 use native.Mathlib.Omega.{arith}
 use lib.Dec.{ltb}
 use borrow.Author.Tests.{lt-ltb, le-ltb, ltb-false}
@@ -16,7 +16,7 @@ use Rattle.context.specs.declared.Layout.{Layout}
 use Rattle.context.specs.Layout.{cap_of}
 use Rattle.context.specs.Memory.{state_of, parts_of, SoundStore}
 use Rattle.context.specs.Performed.{abs}
-use Rattle.creation.specs.Room.{five, spare, left, LackIs, RoomIs}
+use Rattle.creation.specs.Room.{five, wants, spare, left, LackIs, RoomIs}
 
 says_ltb : (p : Bool) (a w : ℕ) → Says p (a < w) → ltb a w ≡ p
 says_ltb true a w h = lt-ltb a w h
@@ -64,7 +64,7 @@ module _ (x : Kind → ℕ) (o b r v u : ℕ) (t : Bool) (whole : t ≡ (ltb (x 
             last₅ =
                 record {
                   is = sym (whole ∙ rw (e₁ ∙ n₁, e₂ ∙ n₂, e₃ ∙ n₃, e₄ ∙ n₄) e₅);
-                  enough = λ z k. elim k [
+                  enough = λ z k. elim k as (λ j. wants j (five o b r v u) ≤ x j) [
                     | op ↦ ltb-false (x op) o (e₁ ∙ n₁)
                     | blk ↦ ltb-false (x blk) b (e₂ ∙ n₂)
                     | reg ↦ ltb-false (x reg) r (e₃ ∙ n₃)

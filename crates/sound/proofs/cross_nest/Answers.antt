@@ -1,0 +1,122 @@
+use native.Mathlib.Omega.{arith}
+use Rattle.places.specs.Store.{op, blk, reg}
+use Rattle.sound.proofs.Laws.{small_total, table_end, nest_asked, nest_say}
+use borrow.Author.Rules.{rules}
+use Rattle.sound.proofs.cross_nest.Goals as goal
+
+pub family_span-g-requires : goal.family_span-g-requires
+family_span-g-requires c =
+    c.requires.caps
+
+pub family_span-h-requires : goal.family_span-h-requires
+family_span-h-requires c =
+    c.requires.caps
+
+pub overflow_mul-eh : goal.overflow_mul-eh
+overflow_mul-eh c =
+    omega (arith, c.family_span-h.ensures.fits, small_total c.requires.caps)
+
+pub overflow_add-eh : goal.overflow_add-eh
+overflow_add-eh c =
+    omega (arith, c.family_span-h.ensures.fits, small_total c.requires.caps)
+
+pub overflow_mul-eh-2 : goal.overflow_mul-eh-2
+overflow_mul-eh-2 c =
+    omega (arith, c.family_span-h.ensures.fits, small_total c.requires.caps)
+
+pub overflow_add-eh-2 : goal.overflow_add-eh-2
+overflow_add-eh-2 c =
+    omega (arith, c.family_span-h.ensures.fits, small_total c.requires.caps)
+
+pub flags_at-at-requires : goal.flags_at-at-requires
+flags_at-at-requires c =
+    c.requires.caps
+
+pub overflow_add-et : goal.overflow_add-et
+overflow_add-et c =
+    omega (arith, c.flags_at-at.ensures.fits, small_total c.requires.caps, c.table_span-o.ensures.capacity)
+
+pub offset_bounds-m-ao : goal.offset_bounds-m-ao
+offset_bounds-m-ao c =
+    omega (arith, table_end c.args.l c.args.m.now op c.table_span-o.result c.table_span-o.ensures, small_total c.requires.caps)
+
+-- ??? part-check-nest-start : tie.Need-slice-bounds-check-nest-start
+-- part-check-nest-start c = search rules
+
+-- ??? part-check-nest-end : tie.Need-slice-bounds-check-nest-end
+-- part-check-nest-end c =
+--     omega (arith, table-end c.before.before.before.before.before.before.before.before.before.before.before.before.before.before.before.before.before.before.before.before.before.before.args.l c.before.before.before.before.before.before.before.before.before.before.before.before.before.before.before.before.before.before.before.before.before.before.args.m.now op c.before.before.before.before.before.before.before.before.before.before.before.before.before.before.before.before.before.before.before.table-span.result c.before.before.before.before.before.before.before.before.before.before.before.before.before.before.before.before.before.before.before.table-span.ensures, c.before.before.before.before.before.before.before.before.before.before.before.before.before.before.before.before.before.before.before.before.before.before.requires.fits)
+
+pub offset_bounds-m-ab : goal.offset_bounds-m-ab
+offset_bounds-m-ab c =
+    omega (arith, table_end c.args.l c.args.m.now blk c.table_span-b.result c.table_span-b.ensures, small_total c.requires.caps)
+
+-- ??? part-check-nest-start-2 : tie.Need-slice-bounds-check-nest-start-2
+-- part-check-nest-start-2 c = search rules
+
+-- ??? part-check-nest-end-2 : tie.Need-slice-bounds-check-nest-end-2
+-- part-check-nest-end-2 c =
+--     omega (arith, table-end c.before.before.before.before.before.before.before.before.before.before.before.before.before.before.before.before.before.before.before.before.before.before.before.args.l c.before.before.before.before.before.before.before.before.before.before.before.before.before.before.before.before.before.before.before.before.before.before.before.args.m.now blk c.before.before.before.before.before.before.before.before.before.before.before.before.before.before.before.before.before.table-span2.result c.before.before.before.before.before.before.before.before.before.before.before.before.before.before.before.before.before.table-span2.ensures, c.before.before.before.before.before.before.before.before.before.before.before.before.before.before.before.before.before.before.before.before.before.before.before.requires.fits)
+
+pub offset_bounds-m-ar : goal.offset_bounds-m-ar
+offset_bounds-m-ar c =
+    omega (arith, table_end c.args.l c.args.m.now reg c.table_span-r.result c.table_span-r.ensures, small_total c.requires.caps)
+
+-- ??? part-check-nest-start-3 : tie.Need-slice-bounds-check-nest-start-3
+-- part-check-nest-start-3 c = search rules
+
+-- ??? part-check-nest-end-3 : tie.Need-slice-bounds-check-nest-end-3
+-- part-check-nest-end-3 c =
+--     omega (arith, table-end c.before.before.before.before.before.before.before.before.before.before.before.before.before.before.before.before.before.before.before.before.before.before.before.before.args.l c.before.before.before.before.before.before.before.before.before.before.before.before.before.before.before.before.before.before.before.before.before.before.before.before.args.m.now reg c.before.before.before.before.before.before.before.before.before.before.before.before.before.before.before.table-span3.result c.before.before.before.before.before.before.before.before.before.before.before.before.before.before.before.table-span3.ensures, c.before.before.before.before.before.before.before.before.before.before.before.before.before.before.before.before.before.before.before.before.before.before.before.before.requires.fits)
+
+pub offset_bounds-m-ag : goal.offset_bounds-m-ag
+offset_bounds-m-ag c =
+    omega (arith, c.family_span-g.ensures.fits, small_total c.requires.caps)
+
+-- ??? part-check-nest-start-4 : tie.Need-slice-bounds-check-nest-start-4
+-- part-check-nest-start-4 c = search rules
+
+-- ??? part-check-nest-end-4 : tie.Need-slice-bounds-check-nest-end-4
+-- part-check-nest-end-4 c =
+--     omega (arith, c.before.before.before.before.before.before.before.before.before.before.family-span2.ensures.fits, c.before.before.before.before.before.before.before.before.before.before.before.before.before.before.before.before.before.before.before.before.before.before.before.before.before.requires.fits)
+
+pub offset_bounds-m-ah : goal.offset_bounds-m-ah
+offset_bounds-m-ah c =
+    omega (arith, c.family_span-h.ensures.fits, small_total c.requires.caps)
+
+-- ??? part-check-nest-start-5 : tie.Need-slice-bounds-check-nest-start-5
+-- part-check-nest-start-5 c = search rules
+
+-- ??? part-check-nest-end-5 : tie.Need-slice-bounds-check-nest-end-5
+-- part-check-nest-end-5 c =
+--     omega (arith, c.before.before.before.before.before.before.before.before.family-span3.ensures.fits, c.before.before.before.before.before.before.before.before.before.before.before.before.before.before.before.before.before.before.before.before.before.before.before.before.before.before.requires.fits)
+
+pub offset_bounds-m-af : goal.offset_bounds-m-af
+offset_bounds-m-af c =
+    omega (arith, c.family_span-f.ensures.fits, small_total c.requires.caps)
+
+-- ??? part-check-nest-start-6 : tie.Need-slice-bounds-check-nest-start-6
+-- part-check-nest-start-6 c = search rules
+
+-- ??? part-check-nest-end-6 : tie.Need-slice-bounds-check-nest-end-6
+-- part-check-nest-end-6 c =
+--     omega (arith, c.before.before.before.before.before.before.before.before.before.before.before.before.before.before.before.family-span.ensures.fits, c.before.before.before.before.before.before.before.before.before.before.before.before.before.before.before.before.before.before.before.before.before.before.before.before.before.before.before.requires.fits)
+
+pub offset_bounds-m-at : goal.offset_bounds-m-at
+offset_bounds-m-at c =
+    omega (arith, c.flags_at-at.ensures.fits, small_total c.requires.caps)
+
+-- ??? part-check-nest-start-7 : tie.Need-slice-bounds-check-nest-start-7
+-- part-check-nest-start-7 c = search rules
+
+-- ??? part-check-nest-end-7 : tie.Need-slice-bounds-check-nest-end-7
+-- part-check-nest-end-7 c =
+--     omega (arith, c.before.before.before.before.before.before.before.flags-at.ensures.fits, c.before.before.before.before.before.before.before.before.before.before.before.before.before.before.before.before.before.before.before.before.before.before.before.before.before.before.before.before.requires.fits, c.before.before.before.before.before.before.before.before.before.before.before.before.before.before.before.before.before.before.before.before.before.before.before.before.before.table-span.ensures.capacity)
+
+pub check_nest-requires : goal.check_nest-requires
+check_nest-requires c =
+    nest_asked c.requires c.table_span-o.result c.table_span-b.result c.table_span-o.ensures c.table_span-b.ensures c.table_span-r.result c.family_span-f.result c.family_span-g.result c.family_span-h.result c.flags_at-at.result c.table_span-r.ensures c.family_span-f.ensures c.family_span-g.ensures c.family_span-h.ensures c.flags_at-at.ensures c.live_count-n.result c.live_count-n.ensures
+
+pub returns : goal.returns
+returns c =
+    nest_say c.requires c.table_span-o.result c.table_span-b.result c.table_span-o.ensures c.table_span-b.ensures c.table_span-r.result c.family_span-f.result c.family_span-g.result c.family_span-h.result c.flags_at-at.result c.table_span-r.ensures c.family_span-f.ensures c.family_span-g.ensures c.family_span-h.ensures c.flags_at-at.ensures c.check_nest.result c.check_nest.ensures

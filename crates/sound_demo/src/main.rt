@@ -3,7 +3,6 @@
 
 use context::Layout;
 use edit::Answer;
-use libc::STDOUT_FILENO;
 
 // The capacities, and where each part starts. Up to 64 places have two words of occupancy.
 const O: usize = 6;
@@ -47,11 +46,11 @@ const PAST: usize = TYPES + V;
 const WORDS: usize = PAST + 4;
 
 fn say(s: &[u8]) {
-    io::write_all(STDOUT_FILENO, s);
+    io::write_all(1, s);
 }
 
 fn number(n: usize) {
-    io::print_decimal(STDOUT_FILENO, n as u64);
+    io::print_decimal(1, n as u64);
 }
 
 // The first `e` bytes as a single edit, put to the store.

@@ -1,7 +1,6 @@
 -- A test's answer is handed on, and taken apart by an `if` on it. Assumes nothing.
 use mathlib.Core.Path.{◌≡◌, subst}
 use mathlib.Core.Bool.{Bool, true, false, not}
-use borrow.Author.Tests.{not-true, not-false}
 use Rattle.seqs.specs.Seqs.{Says}
 
 -- one fact for another that holds exactly where it does
@@ -9,11 +8,7 @@ pub says_map : (b : Bool) {P Q : Type 0} → (P → Q) → (Q → P) → Says b 
 says_map true f g h = f h
 says_map false f g h = λ q. h (g q)
 
--- where an `if` on it was taken
-pub says_true : (b : Bool) (P : Type 0) → b ≡ true → Says b P → P
-says_true b P e h = subst (λ (x : Bool). Says x P) e h
-
--- where an `if` on its negation was taken, and where not
+-- where a test on it failed, and where it held
 pub says_no : (b : Bool) (P : Type 0) → b ≡ false → Says b P → P → ⊥
 says_no b P e h = subst (λ (x : Bool). Says x P) e h
 

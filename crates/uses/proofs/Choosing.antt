@@ -16,14 +16,6 @@ use Rattle.context.specs.Memory.{con, decode, state_of, SoundStore, HomeIs}
 use Rattle.context.specs.Reading.{UserIs}
 use Rattle.uses.specs.Retarget.{block_by, BlockOf, marked, Marks, marked_by, Chosen}
 
-pub not_true : (b : Bool) → not b ≡ true → b ≡ false
-not_true true e = absurd (let z : ◌≡◌ {A = ℕ} 0 1 = cc in omega arith)
-not_true false e = refl
-
-pub not_false : (b : Bool) → not b ≡ false → b ≡ true
-not_false true e = refl
-not_false false e = absurd (let z : ◌≡◌ {A = ℕ} 0 1 = cc in omega arith)
-
 -- ---- the block of a use's operation
 
 con_block : (l : Layout) (k : ℕ) → con l ops_in k ≡ (ops, (blk, k))

@@ -4,7 +4,7 @@ use native.Mathlib.Omega.{arith}
 use mathlib.Core.Logic.{by_cases}
 use native.Mathlib.Decide.{ℕ_discrete}
 use Rattle.seqs.specs.Seqs.{Says}
-use Rattle.seqs.proofs.Says.{says_true}
+use Rattle.seqs.proofs.Says.{says_yes}
 use Rattle.table.specs.Table.{stamp}
 use Rattle.table.proofs.Live.{live_stamp, stamp_live}
 use Rattle.arena.specs.Packed.{Alive, front}
@@ -12,7 +12,7 @@ use Rattle.context.proofs.place_spare.Goals as goal
 
 pub returns-then-g : goal.returns-then-g
 returns-then-g c =
-    let h : Alive c.args.n c.args.t.now c.args.p = says_true c.is_live-g.result (Alive c.args.n c.args.t.now c.args.p) c.if-g.true c.is_live-g.ensures in
+    let h : Alive c.args.n c.args.t.now c.args.p = says_yes c.is_live-g.result (Alive c.args.n c.args.t.now c.args.p) c.if-g.true c.is_live-g.ensures in
     record { is = λ e. absurd (omega (arith, e, live_stamp c.requires.0.table c.args.p h)) }
 
 pub returns-then-s-p-ne0 : goal.returns-then-s-p-ne0

@@ -1,11 +1,11 @@
-use Rattle.seqs.proofs.Says.{says_true}
+use Rattle.seqs.proofs.Says.{says_yes}
 use Rattle.linked_list.specs.Links.{Linked}
 use borrow.Author.Rules.{rules}
 use Rattle.linked_list_demo.proofs.show.Goals as goal
 
 pub show_rows-requires : goal.show_rows-requires
 show_rows-requires c =
-    let k = c.check_links in record { sizes = c.requires.sizes; linked = says_true k.result (Linked c.args.nc c.args.nn c.args.s.now) c.if-check_links.true k.ensures }
+    let k = c.check_links in record { sizes = c.requires.sizes; linked = says_yes k.result (Linked c.args.nc c.args.nn c.args.s.now) c.if-check_links.true k.ensures }
 
 -- ??? slice-aggregate-write-all : tie.Need-slice-aggregate-write-all
 -- slice-aggregate-write-all c = search rules

@@ -12,7 +12,6 @@ use Rattle.seqs.proofs.Parts.{zero_more, rest_is, start_first, part_long as long
 use Rattle.linked_list.specs.Links.{home, Emptied}
 use Rattle.linked_list.proofs.Moves.{emptied}
 use Rattle.bits.proofs.Digits.{all_clear}
-use Rattle.table.specs.Table.{live, next}
 use Rattle.table.proofs.Cells.{started}
 use Rattle.arena.specs.Packed.{Fresh, front, back, cells, words}
 use Rattle.arena.proofs.Marks.{fresh}

@@ -1,5 +1,5 @@
 -- The primitives: what they ask of the store by places, and what they make of it. Assumes nothing: these are definitions.
-use Rattle.std.specs.Prelude.{◌≡◌, ◌≢◌, List, [], ◌∷◌, ◌++◌, map, ℕ, zero, ◌+◌, ◌≤◌, ◌<◌, length, get_or}
+use Rattle.std.specs.Prelude.{◌≡◌, ◌≢◌, List, [], ◌∷◌, ◌++◌, map, ℕ, ◌+◌, ◌≤◌, ◌<◌, length, get_or}
 use Rattle.seqs.specs.Seqs.{seq_swap_out}
 use Rattle.std.proofs.Math.Option.{none, some}
 use Rattle.places.specs.Store.{Role, op, blk, reg, val, usg, Fam, slots, use_sets, vals, regs, ops_in, blocks_in, value_uses, regions, Thing, Thing-dec, Con, State, alive, empty, Live, Fit, Clear, up, birth, end, enter, leave, relink}

@@ -9,7 +9,7 @@ use Rattle.seqs.specs.Seqs.{tick, count, In, sum}
 use Rattle.places.specs.Store.{usg, Role, operands, successors, value_uses, block_uses, results, arguments, regions, ops, blocks, Fam, slots, use_sets, vals, regs, ops_in, blocks_in, fam, node_of, Thing, Thing-dec, Con, Con-dec, State, Live, Link, Linked, owns, outer, UseHeld, Sound}
 use Rattle.places.specs.Walk.{over, among, cut_all, walk, place_uses_at, drop_list, dropped, end_use_by, end_use_at, place_end_uses}
 use Rattle.seqs.proofs.Base.{tick_yes, tick_no, tick_pos, in_head, in_tail, count_append}
-use Rattle.places.proofs.Steps.{thing_eq, once}
+use Rattle.places.proofs.Steps.{thing_eq}
 use Rattle.places.proofs.Placing.{use_holds_nothing}
 use Rattle.seqs.proofs.Sums.{sum_on, sum_zero}
 use Rattle.places.proofs.Cut.{cut_append, cut_nothing, Closed, cut_sound, alive_cut_0}

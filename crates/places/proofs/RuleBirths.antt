@@ -12,7 +12,7 @@ use lib.Dec.{eqb}
 use lib.ListN.{length, length-append, length-map, length-replicate, replicate}
 use borrow.Author.Tests.{eq-eqb, ne_eqb}
 use Rattle.seqs.specs.Seqs.{upd, seq_insert_at, In}
-use Rattle.places.specs.Store.{Kind, op, blk, reg, val, usg, results, arguments, operands, successors, regions, ops, blocks, regs, State, alive, Linked}
+use Rattle.places.specs.Store.{Kind, op, blk, reg, val, usg, results, arguments, regions, ops, blocks, regs, State, alive, Linked}
 use Rattle.places.specs.View.{Names, num, rec_of, view, amend, change_list, set_home, bare, n_birth, n_enter, n_hold}
 use Rattle.places.specs.Edits.{n_birth_use}
 use Rattle.places.specs.Hist.{tabled, op_of, block_of, use_of, born_of, hist, orders_of}

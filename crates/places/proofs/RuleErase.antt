@@ -10,7 +10,7 @@ use Prim.Native.Nat.{ℕ, ◌+◌, ◌≤◌}
 use lib.Dec.{eqb}
 use lib.ListN.{length}
 use Rattle.seqs.specs.Seqs.{count, sum}
-use Rattle.places.specs.Store.{Kind, op, blk, reg, val, usg, Role, operands, successors, results, arguments, regions, blocks, Fam, slots, vals, regs, fam, node_of, Thing, Thing-dec, Con, State, alive, Live, Link, Linked, Sound, outer, up_by, up, nest}
+use Rattle.places.specs.Store.{Kind, op, blk, reg, val, usg, Role, operands, successors, results, arguments, regions, Fam, slots, vals, regs, fam, node_of, Thing, Thing-dec, Con, State, alive, Live, Link, Linked, Sound, outer, up_by, up, nest}
 use Rattle.places.specs.View.{num, rec_of, view}
 use Rattle.places.specs.Hist.{tabled, born_of, op_of, block_of, use_of, hist, the_thing}
 use Rattle.places.specs.Walk.{over, sgn, sift, place_cut_by, among, walk, drop_list, everything, erased, trim}

@@ -8,7 +8,7 @@ use native.Mathlib.Omega.{arith}
 use Prim.Native.Nat.{ℕ, zero, suc, ◌+◌, ◌<◌}
 use lib.ListN.{length, length-map, length-append}
 use Rattle.seqs.specs.Seqs.{upd, seq_insert_at}
-use Rattle.places.specs.Store.{Kind, Kind-dec, op, blk, reg, val, usg, operands, successors, Fam, slots, use_sets, fam, holder_of, Thing, Table, State, alive, Live, Fit, Sound, birth, born, enter, relink, set_own, set_list}
+use Rattle.places.specs.Store.{Kind, Kind-dec, op, blk, reg, val, usg, Fam, slots, use_sets, fam, holder_of, Thing, Table, State, alive, Live, Fit, Sound, birth, born, enter, relink, set_own, set_list}
 use Rattle.places.specs.View.{Rec, Names, num, rec_of, view, amend_in, amend, change_list, set_home, bare, n_birth, n_enter, n_hold}
 use Rattle.places.specs.Edits.{birth_use, n_birth_use}
 use Rattle.places.specs.Hist.{def_by, tabled, op_of, block_of, use_of, born_of, hist, orders_of, rule_state, meaning}

@@ -4,7 +4,7 @@ use mathlib.Core.List.{List, [], ◌++◌}
 use native.Mathlib.Omega.{arith}
 use Prim.Native.Nat.{ℕ, ◌+◌, ◌-◌, ◌<◌, ◌≤◌}
 use lib.ListN.{length, get_or}
-use Rattle.places.specs.Store.{op, blk, reg, val, regions, blocks, Thing, State, Live, Sound}
+use Rattle.places.specs.Store.{op, blk, reg, val, regions, Thing, State, Live, Sound}
 use Rattle.places.specs.View.{num, view}
 use Rattle.places.specs.Hist.{tabled, born_of, hist, orders_of, rule_state, the_thing}
 use Rattle.places.specs.Walk.{place_cut_by, among, walk, drop_list, dropped, everything, erased}

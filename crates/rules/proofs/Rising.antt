@@ -12,7 +12,7 @@ use Rattle.rules.specs.Table.{Table, change, change_all, keep_keys, number, swap
 use Rattle.edit.specs.Record.{Member, operation, block, of_value, of_block, Edit, new_operation, new_block, push_use, insert_use, replace_use, remove_use, pop_use, push_value, insert_value, remove_value, pop_value, link_after, link_before, link_front, link_back, unlink, move_region, move_use, replace_some, retarget_some, drop_uses, erase_operation, erase_block, erase_region, verdict}
 use Rattle.rules.specs.History.{Five, History, births, bear, plus, zeros, begin, carry_out, remember, with_operations, with_blocks, with_uses, end_uses, add_use, take_use, change_values, put_in, change_regions, defined, drop_inside, end_inside, hand_over, place_some, parent}
 use Rattle.rules.specs.State.{State, accept, start, new_flags, new_types}
-use Rattle.rules.specs.Orders.{no_orders, lists, containers, if_same, still_live, new_lists, order, reorder}
+use Rattle.rules.specs.Orders.{no_orders, containers, if_same, still_live, new_lists, order, reorder}
 use Rattle.rules.specs.Refusal.{refusal_of}
 pub use Rattle.rules.specs.Table.{Rising}
 

@@ -16,7 +16,7 @@ use Rattle.rules.specs.State.{State}
 use Rattle.rules.specs.Refusal.{operation_named, named, check, from_state, slot_length}
 use Rattle.edit.specs.Answer.{found}
 use Rattle.rules.specs.Step.{answer}
-use Rattle.rules.specs.Told.{told, gives, born, use_at, ended_uses, erased, ends_use, ends_operation, ends_block, ended, lives, use_lives, is_use_of, placing, placed_at}
+use Rattle.rules.specs.Told.{told, gives, use_at, ended_uses, erased, ends_use, ends_operation, ends_block, lives, use_lives, is_use_of, placing, placed_at}
 use Rattle.rules.proofs.Tables.{All, weigh_at}
 use Rattle.rules.proofs.Live.{IsFound, zero_first}
 use Rattle.rules.proofs.Places.{here, Placed, found_operation, index_in}

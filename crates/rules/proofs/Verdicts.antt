@@ -9,7 +9,7 @@ use native.Mathlib.Omega.{arith}
 use borrow.Author.Tests.{ne_eqb}
 use lib.Dec.{T, eqb, eqb→eq}
 use Rattle.rules.specs.Table.{Table, Rising, spread, find, find_key, remake, change, member, is_some, one, count}
-use Rattle.edit.specs.Record.{successor, block, Thing, the_operation, TheBlock, the_region, verdict}
+use Rattle.edit.specs.Record.{successor, Thing, the_operation, TheBlock, the_region, verdict}
 use Rattle.rules.specs.History.{Operation, Block, uses_in, live_operation, live_block, live_region, parent}
 use Rattle.rules.specs.Orders.{Orders}
 use Rattle.rules.specs.State.{State, accept, number_at, or_zero}

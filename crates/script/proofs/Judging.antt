@@ -9,11 +9,9 @@ use Rattle.edit.specs.Record.{Edit, whole, cut, Read, refused, asks, read}
 use Rattle.edit.specs.Taken.{record_kind, fields_of, record_at, cut_of, NextCut, edit_of, read_of, Taken}
 use Rattle.edit.specs.Answer.{numbers_of}
 use Rattle.edit.specs.declared.Answer.{Answer}
-use Rattle.edit.specs.declared.Answer.TheVariants as Answer
 use Rattle.edit.specs.declared.Next.{Next}
 use Rattle.edit.specs.declared.Next.TheVariants.{Nothing, Broken, Whole}
 use Rattle.edit.specs.declared.Reading.{Reading}
-use Rattle.edit.specs.declared.Reading.TheVariants as Reading
 use Rattle.context.specs.declared.Layout.{Layout}
 use Rattle.context.specs.Memory.{SoundStore, layout_of}
 use Rattle.context.specs.Checked.{Headed}

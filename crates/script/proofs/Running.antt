@@ -9,11 +9,9 @@ use Rattle.edit.specs.Record.{Cut, nothing, broken, whole, cut, Read, refused, a
 use Rattle.edit.specs.Taken.{record_kind, fields_of, record_at, cut_of, NextCut, edit_of, read_of, Taken}
 use Rattle.edit.specs.Answer.{Reply, refuse, numbers_of, Put}
 use Rattle.edit.specs.declared.Answer.{Answer}
-use Rattle.edit.specs.declared.Answer.TheVariants as Answer
 use Rattle.edit.specs.declared.Next.{Next}
 use Rattle.edit.specs.declared.Next.TheVariants.{Nothing, Broken, Whole}
 use Rattle.edit.specs.declared.Reading.{Reading}
-use Rattle.edit.specs.declared.Reading.TheVariants as Reading
 use Rattle.rules.specs.Step.{obey}
 use Rattle.rules.proofs.Closure.{accepted_reply}
 use Rattle.rules.specs.Script.{ended_with, after_reply, turn, run_by, run}
@@ -24,7 +22,6 @@ use Rattle.context.specs.declared.Layout.{Layout}
 use Rattle.context.specs.Memory.{part, SoundStore}
 use Rattle.context.specs.Performed.{abs}
 use Rattle.edits.specs.Scratch.{PerformedWith}
-use Rattle.script.specs.declared.Ran.{Ran}
 use Rattle.script.specs.declared.Step.TheVariants.{Stop, Last, On}
 use Rattle.script.specs.Calls.{flat, Over, Course, over, next, RanOn}
 use Rattle.script.specs.Records.{Obeyed, WentOn, Stepped, before, Going}

@@ -1,6 +1,6 @@
 -- A test's answer is handed on, and taken apart by an `if` on it. Assumes nothing.
 use mathlib.Core.Path.{◌≡◌, subst}
-use mathlib.Core.Bool.{Bool, true, false, not}
+use mathlib.Core.Bool.{Bool, true, false}
 use Rattle.seqs.specs.Seqs.{Says}
 
 -- one fact for another that holds exactly where it does

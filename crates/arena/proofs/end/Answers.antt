@@ -3,7 +3,6 @@ use mathlib.Core.Path.{◌≡◌, sym, subst, subst₂}
 use mathlib.Core.List.{List, ◌++◌}
 use Prim.Native.Nat.{ℕ, ◌-◌, ◌≤◌}
 use native.Mathlib.Omega.{arith}
-use borrow.Author.Rules.{rules}
 use lib.ListN.{length, take, drop}
 use Rattle.bits.specs.Map.{Flipped}
 use Rattle.table.specs.Table.{Ended}

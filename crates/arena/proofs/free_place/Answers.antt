@@ -2,7 +2,6 @@
 use mathlib.Core.Path.{ap, ◌∙◌}
 use mathlib.Core.List.{List}
 use Prim.Native.Nat.{ℕ}
-use borrow.Author.Rules.{rules}
 use Rattle.bits.specs.Map.{bit, lowest}
 use Rattle.arena.specs.Packed.{cells}
 use Rattle.arena.proofs.Parts.{tail_is}

@@ -1,5 +1,4 @@
 -- A slice that passed the check is an arena, and a live place has a stamp. Assumes nothing.
-use borrow.Author.Rules.{rules}
 use Rattle.table.proofs.Laws.{says_yes}
 use Rattle.arena.specs.Packed.{Packed}
 use Rattle.arena.specs.Packed.{Alive}

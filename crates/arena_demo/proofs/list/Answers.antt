@@ -1,7 +1,5 @@
-use Prim.Native.Nat.{◌-◌}
 use native.Mathlib.Omega.{arith}
 use mathlib.Core.Path.{sym, subst}
-use borrow.Author.Rules.{rules}
 use Rattle.table.proofs.Laws.{says_yes}
 use Rattle.arena.specs.Packed.{Packed}
 use Rattle.arena.specs.Packed.{Alive}

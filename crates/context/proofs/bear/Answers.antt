@@ -1,6 +1,5 @@
 use Rattle.context.proofs.Books.{room_asked, borne}
 use Rattle.context.specs.Layout.{kind_of}
-use borrow.Author.Rules.{rules}
 use Rattle.context.proofs.bear.Goals as goal
 
 -- ??? part-birth-start : tie.Need-slice-bounds-birth-start

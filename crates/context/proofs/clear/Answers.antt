@@ -1,5 +1,4 @@
 use mathlib.Core.Path.{◌≡◌, refl}
-use Prim.Native.Nat.{◌-◌}
 use native.Mathlib.Omega.{arith}
 use Rattle.context.proofs.Starting.{zeroed_more}
 use Rattle.context.proofs.clear.Goals as goal

@@ -1,6 +1,5 @@
 use Rattle.context.proofs.Checking.{family_says}
 use Rattle.context.specs.Layout.{fam_of}
-use borrow.Author.Rules.{rules}
 use Rattle.context.proofs.family_ok.Goals as goal
 
 -- ??? part-check-links-start : tie.Need-slice-bounds-check-links-start

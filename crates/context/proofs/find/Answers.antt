@@ -1,6 +1,5 @@
 use Rattle.context.proofs.Books.{packed, finds}
 use Rattle.context.specs.Layout.{kind_of}
-use borrow.Author.Rules.{rules}
 use Rattle.context.proofs.find.Goals as goal
 
 -- ??? part-find-start : tie.Need-slice-bounds-find-start

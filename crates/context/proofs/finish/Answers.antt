@@ -1,6 +1,5 @@
 use Rattle.context.proofs.Books.{live_asked, finished}
 use Rattle.context.specs.Layout.{kind_of}
-use borrow.Author.Rules.{rules}
 use Rattle.context.proofs.finish.Goals as goal
 
 -- ??? part-end-start : tie.Need-slice-bounds-end-start

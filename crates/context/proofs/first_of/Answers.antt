@@ -1,7 +1,6 @@
 use Rattle.context.proofs.Thin.{length_asked, first_is}
 use Rattle.context.specs.Layout.{fam_of}
 use mathlib.Core.Path.{◌∙◌}
-use borrow.Author.Rules.{rules}
 use Rattle.context.proofs.first_of.Goals as goal
 
 -- ??? part-get-head-start : tie.Need-slice-bounds-get-head-start

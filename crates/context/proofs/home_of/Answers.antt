@@ -1,6 +1,5 @@
 use Rattle.context.proofs.Thin.{home_is, home_asked}
 use Rattle.context.specs.Layout.{fam_of}
-use borrow.Author.Rules.{rules}
 use Rattle.context.proofs.home_of.Goals as goal
 
 -- ??? part-get-home-start : tie.Need-slice-bounds-get-home-start

@@ -2,7 +2,6 @@ use Rattle.context.proofs.Thin.{length_asked}
 use Rattle.context.proofs.Neighbours.{last_is}
 use Rattle.context.specs.Layout.{fam_of}
 use mathlib.Core.Path.{◌∙◌}
-use borrow.Author.Rules.{rules}
 use Rattle.context.proofs.last_of.Goals as goal
 
 -- ??? part-get-tail-start : tie.Need-slice-bounds-get-tail-start

@@ -1,6 +1,5 @@
 use Rattle.context.proofs.Books.{packed, live_is}
 use Rattle.context.specs.Layout.{kind_of}
-use borrow.Author.Rules.{rules}
 use Rattle.context.proofs.live_count.Goals as goal
 
 -- ??? part-taken-start : tie.Need-slice-bounds-taken-start

@@ -1,7 +1,6 @@
 use Rattle.context.proofs.Books.{packed, next_number_is, next_small}
 use Rattle.context.specs.Layout.{kind_of}
 use native.Mathlib.Omega.{arith}
-use borrow.Author.Rules.{rules}
 use Rattle.context.proofs.next_number.Goals as goal
 
 -- ??? part-upcoming-start : tie.Need-slice-bounds-upcoming-start

@@ -1,6 +1,5 @@
 use Rattle.context.proofs.Neighbours.{node_asked, next_is}
 use Rattle.context.specs.Layout.{fam_of}
-use borrow.Author.Rules.{rules}
 use Rattle.context.proofs.next_of.Goals as goal
 
 -- ??? part-get-next-start : tie.Need-slice-bounds-get-next-start

@@ -1,6 +1,5 @@
 use Rattle.context.proofs.Books.{nth_asked, nth_live_is}
 use Rattle.context.specs.Layout.{kind_of}
-use borrow.Author.Rules.{rules}
 use Rattle.context.proofs.nth_live.Goals as goal
 
 -- ??? part-nth-live-start : tie.Need-slice-bounds-nth-live-start

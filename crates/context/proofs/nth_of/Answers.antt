@@ -1,6 +1,5 @@
 use Rattle.context.proofs.Neighbours.{nth_asked, nth_is}
 use Rattle.context.specs.Layout.{fam_of}
-use borrow.Author.Rules.{rules}
 use Rattle.context.proofs.nth_of.Goals as goal
 
 -- ??? part-nth-start : tie.Need-slice-bounds-nth-start

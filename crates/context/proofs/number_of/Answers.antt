@@ -1,7 +1,6 @@
 use Rattle.context.proofs.Books.{alive_asked, number_is, number_small}
 use Rattle.context.specs.Layout.{kind_of}
 use native.Mathlib.Omega.{arith}
-use borrow.Author.Rules.{rules}
 use Rattle.context.proofs.number_of.Goals as goal
 
 -- ??? part-number-at-start : tie.Need-slice-bounds-number-at-start

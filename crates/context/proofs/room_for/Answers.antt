@@ -1,7 +1,6 @@
 use Rattle.context.proofs.Books.{packed, full, ran_out, roomy}
 use Rattle.context.specs.Layout.{kind_of}
 use native.Mathlib.Omega.{arith}
-use borrow.Author.Rules.{rules}
 use Rattle.context.proofs.room_for.Goals as goal
 
 -- ??? part-taken-start : tie.Need-slice-bounds-taken-start

@@ -1,6 +1,5 @@
 use Rattle.context.proofs.Thin.{length_asked, length_is}
 use Rattle.context.specs.Layout.{fam_of}
-use borrow.Author.Rules.{rules}
 use Rattle.context.proofs.row_length.Goals as goal
 
 -- ??? part-count-start : tie.Need-slice-bounds-count-start

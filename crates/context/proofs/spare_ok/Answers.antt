@@ -1,5 +1,4 @@
 use Rattle.context.proofs.Sparing.{spare_asked, spare_says}
-use borrow.Author.Rules.{rules}
 use Rattle.context.proofs.spare_ok.Goals as goal
 
 -- ??? part-places-spare-start : tie.Need-slice-bounds-places-spare-start

@@ -1,6 +1,5 @@
 use Rattle.context.proofs.Checking.{table_says}
 use Rattle.context.specs.Layout.{kind_of}
-use borrow.Author.Rules.{rules}
 use Rattle.context.proofs.table_ok.Goals as goal
 
 -- ??? part-check-start : tie.Need-slice-bounds-check-start

@@ -1,4 +1,3 @@
-use borrow.Author.Rules.{rules}
 use Rattle.context_demo.proofs.main.Goals as goal
 
 -- ??? slice-aggregate-say : tie.Need-slice-aggregate-say

@@ -1,4 +1,3 @@
-use Prim.Native.Nat.{◌-◌}
 use native.Mathlib.Omega.{arith}
 use Rattle.edit.specs.Taken.{fields_of}
 use Rattle.places.specs.Roles.{slot_by}

@@ -1,5 +1,4 @@
 use mathlib.Core.Path.{refl, ◌∙◌}
-use Prim.Native.Nat.{◌-◌}
 use native.Mathlib.Omega.{arith}
 use Rattle.edit.specs.Taken.{fields_of}
 use Rattle.creation.proofs.Blocks.{block_refused, block_refusal, block_ready, room_for_block, block_begun, inside, can_argument, block_turn, at_end, block_done}

@@ -1,5 +1,4 @@
 -- The table of least field counts is the one of the definition, entry by entry. Assumes nothing.
-use borrow.Author.Rules.{rules}
 use Rattle.edit.specs.Record.{least}
 use Rattle.edit.proofs.least_fields.Goals as goal
 

@@ -1,5 +1,4 @@
 -- A whole record ends inside the bytes. Assumes nothing.
-use borrow.Author.Rules.{rules}
 use Rattle.edit_demo.proofs.show.Goals as goal
 
 -- ??? slice-aggregate-write-all : tie.Need-slice-aggregate-write-all

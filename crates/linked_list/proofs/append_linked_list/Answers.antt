@@ -1,6 +1,6 @@
 use native.Mathlib.Omega.{arith}
 use mathlib.Core.Path.{◌≡◌, refl, sym, ◌∙◌}
-use Prim.Native.Nat.{zero, suc, ◌-◌, ◌≤◌, zero-le}
+use Prim.Native.Nat.{zero, suc, ◌-◌, zero-le}
 use mathlib.Core.Logic.{inl}
 use Rattle.linked_list.proofs.Getters.{code≤}
 use Rattle.linked_list.proofs.Moves.{mover, moved_more, moved_all}

@@ -1,5 +1,5 @@
 use mathlib.Core.List.{[]}
-use Prim.Native.Nat.{◌-◌, ◌≤◌}
+use Prim.Native.Nat.{◌≤◌}
 use lib.ListN.{get_or, length}
 use Rattle.linked_list.specs.Links.{lists}
 use Rattle.linked_list.proofs.Moves.{Moved}

@@ -1,7 +1,7 @@
 use borrow.Author.Count.{below_more}
 use native.Mathlib.Omega.{arith}
 use mathlib.Core.Path.{◌≡◌, sym, ◌∙◌}
-use Prim.Native.Nat.{◌-◌, zero-le}
+use Prim.Native.Nat.{zero-le}
 use native.Mathlib.Nat.{not-suc-le-zero}
 use Rattle.linked_list.proofs.Checks.{frees_more, frees_skip, frees_none, frees_fail, frees_found}
 use Rattle.linked_list.proofs.check_frees.Goals as goal

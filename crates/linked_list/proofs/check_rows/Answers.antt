@@ -1,7 +1,7 @@
 use borrow.Author.Count.{below_more}
 use native.Mathlib.Omega.{arith}
 use mathlib.Core.Path.{◌≡◌, refl}
-use Prim.Native.Nat.{◌-◌, zero-le}
+use Prim.Native.Nat.{zero-le}
 use native.Mathlib.Nat.{not-suc-le-zero}
 use Rattle.linked_list.proofs.Checks.{tot_more, tot_none, rows_fail, rows_found}
 use Rattle.linked_list.proofs.check_rows.Goals as goal

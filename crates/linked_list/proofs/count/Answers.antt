@@ -1,6 +1,6 @@
 use native.Mathlib.Omega.{arith}
 use mathlib.Core.List.{[]}
-use Prim.Native.Nat.{zero, ◌-◌, ◌≤◌, ◌+◌, zero-le}
+use Prim.Native.Nat.{zero, ◌+◌, zero-le}
 use lib.ListN.{get_or}
 use Rattle.linked_list.specs.Links.{lists}
 use Rattle.linked_list.proofs.Getters.{walk_step, at_ne, at_nil, code≤}

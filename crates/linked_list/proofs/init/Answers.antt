@@ -1,6 +1,6 @@
 use native.Mathlib.Omega.{arith}
 use mathlib.Core.Path.{refl, ◌∙◌}
-use Prim.Native.Nat.{◌-◌, ◌≤◌, ◌<◌, zero-le}
+use Prim.Native.Nat.{◌≤◌, ◌<◌, zero-le}
 use native.Mathlib.Nat.{not-suc-le-zero}
 use lib.ListN.{length, length-set}
 use Rattle.seqs.proofs.Parts.{zero_more}

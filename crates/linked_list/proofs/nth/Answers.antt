@@ -1,7 +1,7 @@
 use native.Mathlib.Omega.{arith}
 use mathlib.Core.Path.{◌≡◌, ap}
 use mathlib.Core.List.{[]}
-use Prim.Native.Nat.{zero, ◌-◌, ◌+◌, zero-le}
+use Prim.Native.Nat.{zero, ◌+◌, zero-le}
 use lib.ListN.{get_or}
 use Rattle.linked_list.specs.Links.{lists, at}
 use Rattle.linked_list.proofs.Getters.{walk_step, on_node, at_get_d}

@@ -1,6 +1,5 @@
 use Rattle.seqs.proofs.Says.{says_yes}
 use Rattle.linked_list.specs.Links.{Linked}
-use borrow.Author.Rules.{rules}
 use Rattle.linked_list_demo.proofs.show.Goals as goal
 
 pub show_rows-requires : goal.show_rows-requires

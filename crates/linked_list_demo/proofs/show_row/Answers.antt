@@ -1,6 +1,4 @@
 use native.Mathlib.Omega.{arith}
-use borrow.Author.Rules.{rules}
-use Prim.Native.Nat.{◌-◌}
 use Rattle.linked_list_demo.proofs.show_row.Goals as goal
 
 -- ??? slice-aggregate-write-all : tie.Need-slice-aggregate-write-all invariant-loop decreases-loop

@@ -4,10 +4,8 @@ use Rattle.links.proofs.Climb.{said, denied, none_left, operation_met, step_ends
 use Rattle.context.proofs.Places.{place<}
 use Rattle.places.specs.Store.{op, blk}
 use native.Mathlib.Omega.{arith}
-use borrow.Author.Rules.{rules}
 use Prim.Native.Nat.{suc, ◌-◌}
 use Rattle.links.specs.Climbing.{thrice}
-use Prim.Native.Nat.{ℕ, ◌<◌}
 use Rattle.links.proofs.+operation_in.Goals as goal
 
 pub returns-then-depth-eq0 : goal.returns-then-depth-eq0

@@ -1,5 +1,4 @@
 use Rattle.listing.proofs.Nodes.{answer_no, answer_ok}
-use borrow.Author.Rules.{rules}
 use Rattle.listing.proofs.put_answer.Goals as goal
 
 -- ??? slice-aggregate-put-field : tie.Need-slice-aggregate-put-field

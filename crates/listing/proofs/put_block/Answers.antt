@@ -7,7 +7,6 @@ use Rattle.context.proofs.Places.{place<}
 use Rattle.rules.specs.Listing as rules
 use Rattle.places.specs.Store.{blk}
 use native.Mathlib.Omega.{arith}
-use borrow.Author.Rules.{rules}
 use Rattle.listing.proofs.put_block.Goals as goal
 
 -- ??? slice-aggregate-put-field : tie.Need-slice-aggregate-put-field

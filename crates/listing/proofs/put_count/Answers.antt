@@ -4,7 +4,6 @@ use Rattle.context.specs.Layout.{kind_of}
 use mathlib.Core.Path.{ap}
 use Rattle.rules.specs.Listing as rules
 use native.Mathlib.Omega.{arith}
-use borrow.Author.Rules.{rules}
 use Rattle.listing.proofs.put_count.Goals as goal
 
 pub overflow_cast-n : goal.overflow_cast-n

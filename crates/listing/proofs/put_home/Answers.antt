@@ -3,7 +3,6 @@ use Rattle.listing.proofs.Writing.{and_then, same_text}
 use Rattle.context.proofs.Places.{place<}
 use Rattle.places.specs.Parts.{node_in}
 use Rattle.context.specs.Layout.{fam_of}
-use borrow.Author.Rules.{rules}
 use Rattle.listing.proofs.put_home.Goals as goal
 
 pub home_of-h-requires : goal.home_of-h-requires

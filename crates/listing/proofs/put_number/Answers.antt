@@ -1,6 +1,5 @@
 use Rattle.rules.specs.Listing as rules
 use Rattle.listing.proofs.Writing.{and_then}
-use borrow.Author.Rules.{rules}
 use Rattle.listing.proofs.put_number.Goals as goal
 
 pub returns : goal.returns

@@ -5,7 +5,6 @@ use Rattle.context.proofs.Places.{place<}
 use Rattle.rules.specs.Listing as rules
 use Rattle.places.specs.Store.{op}
 use native.Mathlib.Omega.{arith}
-use borrow.Author.Rules.{rules}
 use Rattle.listing.proofs.put_op.Goals as goal
 
 -- ??? slice-aggregate-put-field : tie.Need-slice-aggregate-put-field

@@ -4,7 +4,6 @@ use mathlib.Core.Path.{refl}
 use Rattle.context.proofs.Places.{place<}
 use Rattle.rules.specs.Listing as rules
 use Rattle.places.specs.Store.{reg}
-use borrow.Author.Rules.{rules}
 use Rattle.listing.proofs.put_region.Goals as goal
 
 -- ??? slice-aggregate-put-field : tie.Need-slice-aggregate-put-field

@@ -1,5 +1,4 @@
 use Rattle.listing.proofs.Texts.{store_line}
-use borrow.Author.Rules.{rules}
 use Rattle.listing.proofs.put_store.Goals as goal
 
 -- ??? slice-aggregate-put-text : tie.Need-slice-aggregate-put-text

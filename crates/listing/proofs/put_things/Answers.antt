@@ -2,7 +2,7 @@ use Rattle.listing.proofs.Texts.{lines_cons}
 use Rattle.listing.proofs.Nodes.{lines_none}
 use Rattle.listing.proofs.Writing.{turn, finish, same_text}
 use mathlib.Core.Path.{refl, ap, ◌∙◌}
-use Prim.Native.Nat.{ℕ, ◌-◌}
+use Prim.Native.Nat.{ℕ}
 use mathlib.Core.List.{[], ◌∷◌}
 use Rattle.context.specs.Memory.{state_of}
 use Rattle.context.specs.Performed.{abs}

@@ -1,13 +1,12 @@
 use Rattle.listing.proofs.Uses.{uses_cons, uses_none}
 use Rattle.listing.proofs.Writing.{and_then, turn, finish}
 use mathlib.Core.Path.{refl, ◌∙◌}
-use Prim.Native.Nat.{ℕ, ◌-◌}
+use Prim.Native.Nat.{ℕ}
 use mathlib.Core.List.{List}
 use Rattle.context.specs.Memory.{state_of}
 use Rattle.places.specs.Store.{usg}
 use Rattle.rules.specs.Listing as rules
 use Rattle.listing.specs.Lines.{definition_at, uses_among}
-use borrow.Author.Rules.{rules}
 use native.Mathlib.Omega.{arith}
 use Rattle.listing.proofs.put_uses.Goals as goal
 

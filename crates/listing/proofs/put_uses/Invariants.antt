@@ -6,7 +6,6 @@ use Rattle.places.specs.Store.{usg}
 use Rattle.rules.specs.Listing as rules
 use Rattle.listing.specs.Writer.{write}
 use Rattle.listing.specs.Lines.{definition_at, uses_among}
-use borrow.Author.Rules.{rules}
 use Rattle.listing.proofs.put_uses.Given as goal
 
 abbrev pub invariant-loop-i : goal.invariant-loop-i

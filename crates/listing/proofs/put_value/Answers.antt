@@ -6,7 +6,6 @@ use Rattle.rules.specs.Listing as rules
 use Rattle.places.specs.Store.{val}
 use Rattle.context.specs.Memory.{state_of}
 use native.Mathlib.Omega.{arith}
-use borrow.Author.Rules.{rules}
 use Rattle.listing.proofs.put_value.Goals as goal
 
 -- ??? slice-aggregate-put-field : tie.Need-slice-aggregate-put-field

@@ -1,7 +1,5 @@
 use Rattle.listing.proofs.Nodes.{begun, answers_turn, answers_end}
 use mathlib.Core.Path.{refl, ◌∙◌}
-use Prim.Native.Nat.{◌-◌}
-use Rattle.rules.specs.Listing as rules
 use native.Mathlib.Omega.{arith}
 use Rattle.listing.proofs.write_answers.Goals as goal
 

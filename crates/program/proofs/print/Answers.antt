@@ -1,5 +1,4 @@
 use Rattle.program.proofs.Printing.{too_long, not_long}
-use borrow.Author.Rules.{rules}
 use Rattle.program.proofs.print.Goals as goal
 
 -- ??? slice-aggregate-put-text : tie.Need-slice-aggregate-put-text

@@ -2,7 +2,6 @@ use Rattle.listing.proofs.Uses.{among_cons}
 use Rattle.listing.specs.Lines.{definition_at, uses_among}
 use Rattle.listing.proofs.Writing.{turn, finish}
 use mathlib.Core.Path.{refl, ◌∙◌}
-use Prim.Native.Nat.{◌-◌}
 use Rattle.context.specs.Memory.{state_of}
 use Rattle.places.specs.Store.{usg}
 use Rattle.readers.proofs.Telling.{among_none}

@@ -1,7 +1,3 @@
-use Prim.Native.Nat.{◌-◌}
-use borrow.Author.Rules.{rules}
-use Rattle.replay.proofs.main.Goals as goal
-
 -- ??? slice-aggregate-write-all : tie.Need-slice-aggregate-write-all invariant-loop decreases-loop
 -- slice-aggregate-write-all c = search rules
 

@@ -1,7 +1,6 @@
 use native.Mathlib.Omega.{arith}
 use Rattle.places.specs.Store.{op, blk, reg}
 use Rattle.sound.proofs.Laws.{small_total, table_end, nest_asked, nest_say}
-use borrow.Author.Rules.{rules}
 use Rattle.sound.proofs.cross_nest.Goals as goal
 
 pub family_span-g-requires : goal.family_span-g-requires

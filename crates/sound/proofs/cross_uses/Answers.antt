@@ -1,7 +1,6 @@
 use native.Mathlib.Omega.{arith}
-use Rattle.places.specs.Store.{op, blk, val, usg}
+use Rattle.places.specs.Store.{op, blk, usg}
 use Rattle.sound.proofs.Laws.{small_total, table_end, uses_asked, uses_say}
-use borrow.Author.Rules.{rules}
 use Rattle.sound.proofs.cross_uses.Goals as goal
 
 pub overflow_add-eu-3 : goal.overflow_add-eu-3

@@ -1,7 +1,4 @@
-use native.Mathlib.Omega.{arith}
-use Rattle.places.specs.Store.{op, blk, val}
 use Rattle.sound.proofs.Laws.{vals_asked, vals_say}
-use borrow.Author.Rules.{rules}
 use Rattle.sound.proofs.cross_values.Goals as goal
 
 -- ??? part-check-values-start : tie.Need-slice-bounds-check-values-start

@@ -1,6 +1,3 @@
-use Rattle.std.proofs.Common.{◌-◌, rules}
-use Rattle.sound_demo.proofs.part.Goals as goal
-
 -- ??? slice-aggregate-say : tie.Need-slice-aggregate-say invariant-loop decreases-loop
 -- slice-aggregate-say c = search rules
 

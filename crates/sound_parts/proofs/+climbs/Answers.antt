@@ -1,8 +1,6 @@
 use mathlib.Core.Path.{◌∙◌}
 use Rattle.sound_parts.proofs.Laws.{climb_none, climb_top, climb_block, climb_region, climb_op}
-use borrow.Author.Rules.{rules}
 use native.Mathlib.Omega.{arith}
-use Prim.Native.Nat.{ℕ, ◌<◌}
 use Rattle.sound_parts.proofs.+climbs.Goals as goal
 
 pub returns-then-n-eq0 : goal.returns-then-n-eq0

@@ -1,4 +1,3 @@
-use Prim.Native.Nat.{◌-◌}
 use borrow.Author.Count.{below_more}
 use Rattle.table.proofs.Laws.{says_no, says_yes}
 use Rattle.sound_parts.specs.Tests.{FlagAt}

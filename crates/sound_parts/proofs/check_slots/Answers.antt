@@ -1,6 +1,5 @@
 use mathlib.Core.Path.{refl}
-use mathlib.Core.Bool.{true}
-use Prim.Native.Nat.{zero, ◌+◌, ◌-◌, ◌*◌, ◌<◌, ◌≤◌}
+use Prim.Native.Nat.{zero, ◌+◌, ◌-◌, ◌*◌, ◌<◌}
 use borrow.Author.Count.{below_more}
 use Rattle.table.proofs.Laws.{says_no, says_yes}
 use Rattle.linked_list.specs.Links.{Linked, row}

@@ -1,5 +1,5 @@
 use mathlib.Core.Path.{◌≡◌, sym, ap, ◌∙◌}
-use Prim.Native.Nat.{◌-◌, ◌≤◌}
+use Prim.Native.Nat.{◌≤◌}
 use borrow.Author.Count.{below_more}
 use Rattle.table.specs.Table.{stamp, taken, sign}
 use Rattle.table.specs.Table as T

@@ -1,5 +1,4 @@
 use native.Mathlib.Omega.{arith}
-use Prim.Native.Nat.{◌-◌}
 use Rattle.table.proofs.Shifts.{begun, part_more, closed}
 use Rattle.table.proofs.close_gap.Goals as goal
 

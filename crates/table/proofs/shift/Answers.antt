@@ -1,5 +1,4 @@
 use Rattle.table.proofs.Shifts.{shifted}
-use borrow.Author.Rules.{rules}
 use Rattle.table.proofs.shift.Goals as goal
 
 -- ??? part-close-gap-start : tie.Need-slice-bounds-close-gap-start

@@ -1,5 +1,4 @@
 use mathlib.Core.Path.{refl, ◌∙◌}
-use Prim.Native.Nat.{◌-◌}
 use native.Mathlib.Omega.{arith}
 use Rattle.edit.specs.Taken.{fields_of}
 use Rattle.uses.proofs.Placing.{begins, goes_on, ends}

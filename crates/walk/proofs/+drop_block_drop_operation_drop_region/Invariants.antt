@@ -1,5 +1,4 @@
 -- An operation leaves fewer operations that are not yet reached; a region or a block hands the number on, so their places in the cycle count too.
-use mathlib.Core.Path.{◌≡◌}
 use Prim.Native.Nat.{◌+◌, ◌*◌}
 use Rattle.places.specs.Store.{op, blk, reg}
 use Rattle.walk.specs.Drop.{walked}

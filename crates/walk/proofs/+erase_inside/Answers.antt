@@ -1,13 +1,6 @@
-use borrow.Author.Rules.{rules}
-use mathlib.Core.Path.{◌≡◌, refl, ◌∙◌}
-use Prim.Native.Nat.{ℕ, ◌<◌}
+use mathlib.Core.Path.{refl, ◌∙◌}
 use native.Mathlib.Omega.{arith}
-use Rattle.context.specs.Layout.{kind_of}
-use Rattle.context.specs.Memory.{state_of}
-use lib.ListN.{length}
-use Rattle.places.specs.Walk.{kids}
-use Rattle.places.proofs.Runs.{measure}
-use Rattle.walk.proofs.EraseWalk.{Going, inner≤, inner_list, started, started_live, finished, size_kept, can_end, child_can, child_less, after_live, turn, fewer}
+use Rattle.walk.proofs.EraseWalk.{inner≤, inner_list, started, started_live, finished, size_kept, can_end, child_can, child_less, after_live, turn, fewer}
 use Rattle.walk.proofs.+erase_inside.Goals as goal
 
 pub end_own-requires : goal.end_own-requires

@@ -1,13 +1,10 @@
-use borrow.Author.Rules.{rules}
-use mathlib.Core.Path.{◌≡◌, refl, ◌∙◌}
-use Prim.Native.Nat.{ℕ, ◌<◌}
-use native.Mathlib.Omega.{arith}
+use mathlib.Core.Path.{◌≡◌}
 use Rattle.context.specs.Layout.{kind_of}
 use Rattle.context.specs.Memory.{state_of}
 use lib.ListN.{length}
 use Rattle.places.specs.Walk.{kids}
 use Rattle.places.proofs.Runs.{measure}
-use Rattle.walk.proofs.EraseWalk.{Going, inner≤, inner_list, started, started_live, finished, size_kept, can_end, child_can, child_less, after_live, turn, fewer}
+use Rattle.walk.proofs.EraseWalk.{Going}
 use Rattle.walk.proofs.+erase_inside.Given as goal
 
 abbrev pub decreases-erase_inside : goal.decreases-erase_inside

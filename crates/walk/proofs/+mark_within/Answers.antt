@@ -1,15 +1,12 @@
 use Rattle.context.specs.Layout.{kind_of}
 use Rattle.context.specs.Memory.{state_of}
 use Rattle.walk.proofs.KindCodes.{place_op}
-use borrow.Author.Rules.{rules}
 use mathlib.Core.Path.{◌∙◌}
 use native.Mathlib.Omega.{arith}
-use Rattle.context.specs.Layout.{fam_of}
-use Rattle.context.proofs.Cursor.{ahead, here, next_less}
+use Rattle.context.proofs.Cursor.{here, next_less}
 use Rattle.walk.proofs.EraseWalk.{inner_list}
 use Rattle.walk.proofs.Strays.{child_testable}
-use Rattle.walk.proofs.Marks.{given_nowhere, Marking, marking, marking_on, marked}
-use Prim.Native.Nat.{ℕ, ◌+◌, ◌<◌}
+use Rattle.walk.proofs.Marks.{given_nowhere, marking, marking_on, marked}
 use Rattle.walk.proofs.+mark_within.Goals as goal
 
 pub returns-then-n-eq0 : goal.returns-then-n-eq0

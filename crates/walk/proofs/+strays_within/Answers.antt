@@ -1,15 +1,14 @@
-use borrow.Author.Rules.{rules}
 use mathlib.Core.Path.{refl, sym, ap, ◌∙◌}
 use mathlib.Core.Bool.{true, false}
 use native.Mathlib.Omega.{arith}
-use Rattle.context.specs.Layout.{kind_of, fam_of}
+use Rattle.context.specs.Layout.{kind_of}
 use Rattle.context.specs.Memory.{state_of}
-use Rattle.context.proofs.Cursor.{ahead, here, next_less}
+use Rattle.context.proofs.Cursor.{here, next_less}
 use Rattle.walk.specs.Tests.{stray_thing, marks_in}
-use Rattle.context.proofs.Search.{Searching, searching, hit, miss, over}
+use Rattle.context.proofs.Search.{searching, hit, miss, over}
 use Rattle.walk.proofs.EraseWalk.{inner_list}
 use Rattle.walk.proofs.Strays.{child_is, child_testable, in_test, test_own, test_inside, test_none}
-use Prim.Native.Nat.{ℕ, ◌+◌, ◌-◌, ◌<◌}
+use Prim.Native.Nat.{◌-◌}
 use Rattle.walk.proofs.+strays_within.Goals as goal
 
 pub returns-then-n-eq0 : goal.returns-then-n-eq0

@@ -1,17 +1,10 @@
 use mathlib.Core.Bool.{not}
-use borrow.Author.Rules.{rules}
 use mathlib.Core.Path.{sym, ap, ◌∙◌}
-use Prim.Native.Nat.{ℕ, ◌<◌}
 use native.Mathlib.Omega.{arith}
-use Rattle.places.specs.Store.{op, blk, reg, regs, ops_in, blocks_in}
-use Rattle.context.specs.Memory.{state_of}
-use Rattle.places.specs.Verdict.{place_block_verdict, place_region_verdict}
-use Rattle.places.proofs.Runs.{measure}
-use Rattle.walk.specs.Judge.{on_op}
 use Rattle.rules.specs.Verdict.{is_clean}
-use Rattle.context.proofs.Cursor.{ahead, here, next_less}
+use Rattle.context.proofs.Cursor.{here, next_less}
 use Rattle.walk.proofs.DropWalk.{in_op, in_region, in_block, row<}
-use Rattle.walk.proofs.Search.{nay, yea, Meeting, meeting, on}
+use Rattle.walk.proofs.Search.{nay, yea, meeting, on}
 use Rattle.walk.proofs.VerifyLaws.{kid_falls, op_hit, op_end, region_hit, region_end, block_self, block_hit, block_end}
 use Rattle.walk.proofs.+verify_block_verify_operation_verify_region.Goals as goal
 

@@ -1,5 +1,4 @@
 use mathlib.Core.Path.{refl, ◌∙◌}
-use Rattle.context.proofs.Cursor.{row}
 use Rattle.walk.proofs.EndValues.{ending, value_unused, value_turn, values_less, values_ended}
 use Rattle.walk.proofs.end_values.Goals as goal
 

@@ -1,4 +1,3 @@
-use Prim.Native.Nat.{◌-◌}
 use Rattle.places.specs.Store.{vals}
 use Rattle.context.specs.Memory.{state_of}
 use Rattle.context.proofs.Cursor.{ahead}

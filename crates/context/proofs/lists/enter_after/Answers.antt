@@ -1,6 +1,5 @@
 use Rattle.context.specs.Layout.{fam_of}
 use Rattle.context.proofs.Marks.{beside_asked, entered_after}
-use borrow.Author.Rules.{rules}
 use Rattle.context.proofs.lists.enter_after.Goals as goal
 
 -- ??? part-insert-after-start : tie.Need-slice-bounds-insert-after-start

@@ -1,6 +1,5 @@
 use Rattle.context.proofs.Thin.{enter_asked, entered_at}
 use Rattle.context.specs.Layout.{fam_of}
-use borrow.Author.Rules.{rules}
 use Rattle.context.proofs.lists.enter_at.Goals as goal
 
 -- ??? part-insert-at-start : tie.Need-slice-bounds-insert-at-start

@@ -1,6 +1,5 @@
 use Rattle.context.specs.Layout.{fam_of}
 use Rattle.context.proofs.Thin.{enter_asked, entered_back}
-use borrow.Author.Rules.{rules}
 use Rattle.context.proofs.lists.enter_back.Goals as goal
 
 -- ??? part-insert-at-back-start : tie.Need-slice-bounds-insert-at-back-start

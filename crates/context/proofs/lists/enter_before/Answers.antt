@@ -1,6 +1,5 @@
 use Rattle.context.specs.Layout.{fam_of}
 use Rattle.context.proofs.Marks.{beside_asked, entered_before}
-use borrow.Author.Rules.{rules}
 use Rattle.context.proofs.lists.enter_before.Goals as goal
 
 -- ??? part-insert-before-start : tie.Need-slice-bounds-insert-before-start

@@ -1,6 +1,5 @@
 use Rattle.context.specs.Layout.{fam_of}
 use Rattle.context.proofs.Thin.{unlink_asked, left}
-use borrow.Author.Rules.{rules}
 use Rattle.context.proofs.lists.leave.Goals as goal
 
 -- ??? part-unlink-start : tie.Need-slice-bounds-unlink-start

@@ -1,6 +1,5 @@
 use Rattle.context.proofs.Tags.{tagged}
 use Rattle.context.specs.Layout.{flags}
-use borrow.Author.Rules.{rules}
 use Rattle.context.proofs.operation.put_flags.Goals as goal
 
 -- ??? part-put-cell-start : tie.Need-slice-bounds-put-cell-start

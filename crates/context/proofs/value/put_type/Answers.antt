@@ -1,6 +1,5 @@
 use Rattle.context.proofs.Tags.{tagged}
 use Rattle.context.specs.Layout.{types}
-use borrow.Author.Rules.{rules}
 use Rattle.context.proofs.value.put_type.Goals as goal
 
 -- ??? part-put-cell-start : tie.Need-slice-bounds-put-cell-start

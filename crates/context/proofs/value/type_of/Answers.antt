@@ -1,6 +1,5 @@
 use Rattle.context.proofs.Tags.{tag_read}
 use Rattle.context.specs.Layout.{types}
-use borrow.Author.Rules.{rules}
 use Rattle.context.proofs.value.type_of.Goals as goal
 
 -- ??? part-get-cell-start : tie.Need-slice-bounds-get-cell-start

@@ -30,6 +30,7 @@ NAMED = {
     "bks-told": "BksTold",
     "a-container": "IsContainerAsked",
     "a-node": "IsNodeAsked",
+    "TheBlock": "the_block",
     "block-of": "block_of_op",
     "blockVerdict": "place_block_verdict",
     "regionVerdict": "place_region_verdict",

@@ -1,7 +1,7 @@
 -- The edit of each kind in terms of the record's fields, one line to a shape: operands and successors, results and
 -- arguments, operations and blocks differ in a parameter. Assumes nothing: these are definitions.
 use Rattle.std.specs.Prelude.{◌≡◌, List, ℕ, ◌+◌, get_or, drop}
-use Rattle.edit.specs.Record.{Slot, operand, successor, Member, operation, block, the_operation, TheBlock, the_region, new_operation, new_block, push_use, insert_use, replace_use, remove_use, pop_use, push_value, insert_value, remove_value, pop_value, link_after, link_before, link_front, link_back, unlink, move_region, move_use, replace_some, retarget_some, drop_uses, erase_operation, erase_block, erase_region, verdict, part}
+use Rattle.edit.specs.Record.{Slot, operand, successor, Member, operation, block, the_operation, the_block, the_region, new_operation, new_block, push_use, insert_use, replace_use, remove_use, pop_use, push_value, insert_value, remove_value, pop_value, link_after, link_before, link_front, link_back, unlink, move_region, move_use, replace_some, retarget_some, drop_uses, erase_operation, erase_block, erase_region, verdict, part}
 use Rattle.edit.specs.Taken.{edit_of}
 
 -- the first of the five kinds on operands or successors
@@ -62,11 +62,11 @@ module _ (fs : List ℕ) where
     pub some_uses : edit_of 34 fs ≡ replace_some f₀ f₁ (drop 2 fs)
     pub some_predecessors : edit_of 35 fs ≡ retarget_some f₀ f₁ (drop 2 fs)
     pub operation_drop : edit_of 36 fs ≡ drop_uses (the_operation f₀)
-    pub block_drop : edit_of 37 fs ≡ drop_uses (TheBlock f₀)
+    pub block_drop : edit_of 37 fs ≡ drop_uses (the_block f₀)
     pub region_drop : edit_of 38 fs ≡ drop_uses (the_region f₀)
     pub operation_erase : edit_of 39 fs ≡ erase_operation f₀
     pub block_erase : edit_of 40 fs ≡ erase_block f₀
     pub region_erase : edit_of 41 fs ≡ erase_region f₀ f₁
     pub operation_verdict : edit_of 42 fs ≡ verdict (the_operation f₀)
-    pub block_verdict : edit_of 43 fs ≡ verdict (TheBlock f₀)
+    pub block_verdict : edit_of 43 fs ≡ verdict (the_block f₀)
     pub region_verdict : edit_of 44 fs ≡ verdict (the_region f₀)

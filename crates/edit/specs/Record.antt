@@ -12,7 +12,7 @@ pub data Member : Type 0 where
 
 -- what has an inside
 pub data Thing : Type 0 where
-  the_operation TheBlock the_region : ℕ → Thing
+  the_operation the_block the_region : ℕ → Thing
 
 -- what a use is a use of
 pub data Definition : Type 0 where
@@ -153,13 +153,13 @@ module _ (fs : List ℕ) where
       ∷ replace_some (field 0) (field 1) (drop 2 fs)
       ∷ retarget_some (field 0) (field 1) (drop 2 fs)
       ∷ drop_uses (the_operation (field 0))
-      ∷ drop_uses (TheBlock (field 0))
+      ∷ drop_uses (the_block (field 0))
       ∷ drop_uses (the_region (field 0))
       ∷ erase_operation (field 0)
       ∷ erase_block (field 0)
       ∷ erase_region (field 0) (field 1)
       ∷ verdict (the_operation (field 0))
-      ∷ verdict (TheBlock (field 0))
+      ∷ verdict (the_block (field 0))
       ∷ verdict (the_region (field 0))
       ∷ []
 

@@ -3,7 +3,7 @@ use Rattle.std.specs.Prelude.{List, map, ℕ, ◌-◌, length}
 use Rattle.std.proofs.Math.Option.{Option, none, some}
 use Rattle.places.specs.Store.{Kind, op, blk, reg, val, usg, Role, operands, successors, value_uses, block_uses, results, arguments, regions, ops, blocks, ops_in, blocks_in, use_sets, Thing, State}
 use Rattle.places.specs.View.{Rec, Names, num, view}
-use Rattle.edit.specs.Record.{Definition, of_value, of_block, the_operation, TheBlock, the_region}
+use Rattle.edit.specs.Record.{Definition, of_value, of_block, the_operation, the_block, the_region}
 use Rattle.places.specs.Alias.{RThing, RState}
 use Rattle.rules.specs.History.{Five, Operation, Block, History}
 use Rattle.rules.specs.Orders.{Orders}
@@ -51,7 +51,7 @@ hist n N = record { operations = tabled op_of (N.things op); blocks = tabled blo
 
 abbrev pub thing_named : Kind → ℕ → RThing
 thing_named op n = the_operation n
-thing_named blk n = TheBlock n
+thing_named blk n = the_block n
 thing_named reg n = the_region n
 thing_named val n = the_region n
 thing_named usg n = the_region n

@@ -11,7 +11,7 @@ use borrow.Author.Tests.{leb-true, leb-false, eqb-false}
 use lib.Dec.{T, eqb, leb, eqb→eq}
 use lib.ListN.{length}
 use Rattle.rules.specs.Table.{keep, keys, member, one, count}
-use Rattle.edit.specs.Record.{Thing, the_operation, TheBlock, the_region}
+use Rattle.edit.specs.Record.{Thing, the_operation, the_block, the_region}
 use Rattle.rules.specs.History.{History, block_at, region_at, parent}
 use Rattle.rules.specs.Demand.{LiesIn, directly, further, as_thing, up_from}
 use Rattle.rules.proofs.Tables.{or_split, or_r}
@@ -33,7 +33,7 @@ unfolding over up_from as_thing
 over_lies h n p e = at_block (block_at h n) refl e
   where
     at_region : (b r : ℕ) → block_at h n ≡ some b → region_at h b ≡ some r → parent h r ≡ some p → LiesIn (up_from h) (the_operation n) (the_operation p)
-    at_region b r x y z = further {b = TheBlock b} (ap (as_thing TheBlock) x) (further {b = the_region r} (ap (as_thing the_region) y) (directly (ap (as_thing the_operation) z)))
+    at_region b r x y z = further {b = the_block b} (ap (as_thing the_block) x) (further {b = the_region r} (ap (as_thing the_region) y) (directly (ap (as_thing the_operation) z)))
 
     next_region : (b : ℕ) → block_at h n ≡ some b → (o : Option ℕ) → region_at h b ≡ o → next o (parent h) ≡ some p → LiesIn (up_from h) (the_operation n) (the_operation p)
     next_region b x none y z = absurd (none_some z)

@@ -9,7 +9,7 @@ use native.Mathlib.Omega.{arith}
 use borrow.Author.Tests.{ne_eqb, leb-true, leb-false}
 use lib.Dec.{T, eqb, leb, eqb→eq}
 use Rattle.rules.specs.Table.{Table, keep, find, find_key, keys, change, change_all, keep_keys, member, remove_at, swap, swap_out, last_of, front_of, some_and, is_some, up, one, count}
-use Rattle.edit.specs.Record.{Slot, operand, successor, Member, operation, block, Thing, the_operation, TheBlock, the_region, Definition, Edit, new_operation, new_block, push_use, insert_use, replace_use, remove_use, pop_use, push_value, insert_value, remove_value, pop_value, link_after, link_before, link_front, link_back, unlink, move_region, move_use, replace_some, retarget_some, drop_uses, erase_operation, erase_block, erase_region, verdict}
+use Rattle.edit.specs.Record.{Slot, operand, successor, Member, operation, block, Thing, the_operation, the_block, the_region, Definition, Edit, new_operation, new_block, push_use, insert_use, replace_use, remove_use, pop_use, push_value, insert_value, remove_value, pop_value, link_after, link_before, link_front, link_back, unlink, move_region, move_use, replace_some, retarget_some, drop_uses, erase_operation, erase_block, erase_region, verdict}
 use Rattle.rules.specs.History.{Operation, Block, Five, History, births, bear, plus, zeros, begin, carry_out, remember, change_slot, change_results, change_regions, change_arguments, into_block, into_region, with_operations, with_blocks, with_uses, end_uses, add_use, take_use, change_values, put_in, container, emptied, region_index, drop_inside, end_inside, hand_over, place_some, region_climb, block_climb, operation_in, block_in, region_in, parent, block_of_op, region_of, block_at, region_at, is_operation, is_block, is_region, live_block, live_region}
 use Rattle.rules.proofs.Tables.{All, or_l, against, not_or}
 use Rattle.rules.specs.State.{State, accept, start}
@@ -172,7 +172,7 @@ nest_operation ns h x b m a w k found out = nest_move ns h (put_in operation x (
 
 -- ---- a block into a region
 
-direct_block : (h : History) (x n b : ℕ) → block_at h n ≡ some b → direct h (TheBlock x) n ≡ eqb x b
+direct_block : (h : History) (x n b : ℕ) → block_at h n ≡ some b → direct h (the_block x) n ≡ eqb x b
 unfolding direct is_operation is_block is_region some_and
 direct_block h x n b e = ap (λ (o : Option ℕ). some_and o (λ c. eqb x c || some_and (region_at h c) (λ r. false))) e ∙ or_none (eqb x b) (some_and (region_at h b) (λ r. false)) (none_of (region_at h b))
   where
@@ -197,19 +197,19 @@ block_over : (x : ℕ) (c : Option ℕ) (h : History) (n : ℕ) → over (put_in
 unfolding over put_in with_blocks block_at parent
 block_over x c h n = refl
 
-nest_block : (ns : List ℕ) (h : History) (x r m : ℕ) (a : Block) → Nested ns h → Rising 0 m h.operations → find h.blocks x ≡ some a → T (not (region_in h (TheBlock x) r)) → Nested (keep (operation_in h (TheBlock x)) ns ++ keep (λ n. not (operation_in h (TheBlock x) n)) ns) (put_in block x (some r) h)
-nest_block ns h x r m a w k found out = nest_move ns h (put_in block x (some r) h) (TheBlock x) w (unfold put_in with_blocks in refl) (λ n p e. at n p (block_at h n) refl (sym (block_over x (some r) h n) ∙ e))
+nest_block : (ns : List ℕ) (h : History) (x r m : ℕ) (a : Block) → Nested ns h → Rising 0 m h.operations → find h.blocks x ≡ some a → T (not (region_in h (the_block x) r)) → Nested (keep (operation_in h (the_block x)) ns ++ keep (λ n. not (operation_in h (the_block x) n)) ns) (put_in block x (some r) h)
+nest_block ns h x r m a w k found out = nest_move ns h (put_in block x (some r) h) (the_block x) w (unfold put_in with_blocks in refl) (λ n p e. at n p (block_at h n) refl (sym (block_over x (some r) h n) ∙ e))
   where
     new : History
     new = put_in block x (some r) h
 
-    under : (n p b : ℕ) → block_at h n ≡ some b → (c : Bool) → eqb x b ≡ c → next (region_at new b) (parent h) ≡ some p → (T (direct h (TheBlock x) n) × T (not (operation_in h (TheBlock x) p)) × T (member p ns)) ⊎ (T (not (direct h (TheBlock x) n)) × (over h n ≡ some p))
+    under : (n p b : ℕ) → block_at h n ≡ some b → (c : Bool) → eqb x b ≡ c → next (region_at new b) (parent h) ≡ some p → (T (direct h (the_block x) n) × T (not (operation_in h (the_block x) p)) × T (member p ns)) ⊎ (T (not (direct h (the_block x) n)) × (over h n ≡ some p))
     under n p b y true z e =
         let up_from : parent h r ≡ some p = sym (ap (λ (o : Option ℕ). next o (parent h)) (ap (region_at new) (sym (eqb→eq x b (subst T (sym z) tt))) ∙ put_region x (some r) h a found)) ∙ e in
-        inl (subst T (sym (direct_block h x n b y ∙ z)) tt, region_out h (TheBlock x) r p out up_from, parent_member ns h m w k r p up_from)
+        inl (subst T (sym (direct_block h x n b y ∙ z)) tt, region_out h (the_block x) r p out up_from, parent_member ns h m w k r p up_from)
     under n p b y false z e = inr (not_true _ (direct_block h x n b y ∙ z), over_block h n b y ∙ sym (ap (λ (o : Option ℕ). next o (parent h)) (region_other x b (some r) h z)) ∙ e)
 
-    at : (n p : ℕ) (o : Option ℕ) → block_at h n ≡ o → next (block_at h n) (λ d. next (region_at new d) (parent h)) ≡ some p → (T (direct h (TheBlock x) n) × T (not (operation_in h (TheBlock x) p)) × T (member p ns)) ⊎ (T (not (direct h (TheBlock x) n)) × (over h n ≡ some p))
+    at : (n p : ℕ) (o : Option ℕ) → block_at h n ≡ o → next (block_at h n) (λ d. next (region_at new d) (parent h)) ≡ some p → (T (direct h (the_block x) n) × T (not (operation_in h (the_block x) p)) × T (member p ns)) ⊎ (T (not (direct h (the_block x) n)) × (over h n ≡ some p))
     at n p none y e = absurd (none_some (sym (ap (λ (o : Option ℕ). next o (λ d. next (region_at new d) (parent h))) y) ∙ e))
     at n p (some b) y e = under n p b y (eqb x b) refl (sym (ap (λ (o : Option ℕ). next o (λ d. next (region_at new d) (parent h))) y) ∙ e)
 
@@ -649,7 +649,7 @@ hung_operation b d x c h so l k w =
     let a = found_operation h x l in
     record { list = _; nested = nest_operation w.list h x c d a.0 w.nested so.rising a.1 k; within = w.within }
 
-hung_block : (b d x r : ℕ) (h : History) → Sorted d h.operations → IsFound h (block_named x) → T (not (region_in h (TheBlock x) r)) → r < b → Hung b h → Hung b (put_in block x (some r) h)
+hung_block : (b d x r : ℕ) (h : History) → Sorted d h.operations → IsFound h (block_named x) → T (not (region_in h (the_block x) r)) → r < b → Hung b h → Hung b (put_in block x (some r) h)
 hung_block b d x r h so l k low w =
     let a = found_block_entry h x l in
     record { list = _; nested = nest_block w.list h x r d a.0 w.nested so.rising a.1 k; within = λ c q e. at c q (eqb x c) refl e }
@@ -830,7 +830,7 @@ hung_carry_out (replace_some x y us) s o l k w = more0 _ _ (hung_place _ _ _ _ s
 hung_carry_out (retarget_some x y ps) s o l k w = more0 _ _ (hung_place _ _ _ _ s.history w)
 hung_carry_out (drop_uses th) s o l k w = more0 _ _ (hung_drop _ th s.history w)
 hung_carry_out (erase_operation n) s o l k w = more0 _ _ (hung_erase (the_operation n) s o w)
-hung_carry_out (erase_block n) s o l k w = more0 _ _ (hung_erase (TheBlock n) s o w)
+hung_carry_out (erase_block n) s o l k w = more0 _ _ (hung_erase (the_block n) s o w)
 hung_carry_out (erase_region n i) s o l k w = more0 _ _ (hung_erase_region n i s o w)
 hung_carry_out (verdict th) s o l k w = more0 _ _ w
 

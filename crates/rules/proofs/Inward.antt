@@ -9,7 +9,7 @@ use native.Mathlib.Omega.{arith}
 use lib.Dec.{T, eqb, eqb→eq}
 use lib.ListN.{length}
 use Rattle.rules.specs.Table.{find, keys, member, one, count}
-use Rattle.edit.specs.Record.{Thing, the_operation, TheBlock, the_region}
+use Rattle.edit.specs.Record.{Thing, the_operation, the_block, the_region}
 use Rattle.rules.specs.History.{Operation, History, block_of_op, block_at, region_at, parent}
 use Rattle.rules.specs.Demand.{LiesIn, directly, further, as_thing, up_from}
 use Rattle.rules.proofs.Tables.{or_split}
@@ -87,7 +87,7 @@ module _ (h : History) (ns : List ℕ) where
 
   abbrev depth : Thing → ℕ
   depth (the_operation n) = 3 * rank n ns
-  depth (TheBlock b) = under_block (region_at h b)
+  depth (the_block b) = under_block (region_at h b)
   depth (the_region r) = under_region (parent h r)
 
 some_thing : (f : ℕ → Thing) (o : Option ℕ) (t : Thing) → as_thing f o ≡ some t → (n : ℕ) × (o ≡ some n) × (f n ≡ t)
@@ -106,7 +106,7 @@ linked_found h n b e = go (find h.operations n) refl e
 falls : (h : History) (ns : List ℕ) → Nested ns h → ((n : ℕ) → count n ns ≤ 1) → (a b : Thing) → up_from h a ≡ some b → depth h ns b < depth h ns a
 unfolding up_from
 falls h ns w u (the_operation n) t e =
-    let f = some_thing TheBlock (block_at h n) t e in
+    let f = some_thing the_block (block_at h n) t e in
     subst (λ (x : Thing). depth h ns x < 3 * rank n ns) f.2 (at f.0 f.1 (is_member n ns (omega (arith, w.same n, linked_found h n f.0 f.1))))
   where
     at : (b : ℕ) → block_at h n ≡ some b → T (member n ns) → under_block h ns (region_at h b) < 3 * rank n ns
@@ -119,7 +119,7 @@ falls h ns w u (the_operation n) t e =
             up : (v : Option ℕ) → parent h r ≡ v → 1 + under_region h ns v < 3 * rank n ns
             up none s = omega (arith, rank_least n ns m)
             up (some p) s = omega (arith, rank_down h ns w.down u n p m (unfold over in (ap (λ (c : Option ℕ). next c (λ d. next (region_at h d) (parent h))) z ∙ ap (λ (c : Option ℕ). next c (parent h)) q ∙ s)))
-falls h ns w u (TheBlock b) t e =
+falls h ns w u (the_block b) t e =
     let f = some_thing the_region (region_at h b) t e in
     subst (λ (x : Thing). depth h ns x < under_block h ns (region_at h b)) f.2 (subst (λ (o : Option ℕ). under_region h ns (parent h f.0) < under_block h ns o) (sym f.1) (omega arith))
 falls h ns w u (the_region r) t e =

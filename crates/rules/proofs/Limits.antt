@@ -10,7 +10,7 @@ use borrow.Author.Tests.{eqb-false}
 use lib.Dec.{T, eqb, leb, ltb, eqb→eq, nleb→lt}
 use lib.ListN.{length, set, length-append, length-set}
 use Rattle.rules.specs.Table.{Table, find, change, insert_at, remove_at, swap, swap_out, last_of, front_of, some_and}
-use Rattle.edit.specs.Record.{Slot, operand, successor, Member, operation, block, Thing, the_operation, TheBlock, the_region, Edit, new_operation, new_block, push_use, insert_use, replace_use, remove_use, pop_use, push_value, insert_value, remove_value, pop_value, link_after, link_before, link_front, link_back, unlink, move_region, move_use, replace_some, retarget_some, drop_uses, erase_operation, erase_block, erase_region, verdict}
+use Rattle.edit.specs.Record.{Slot, operand, successor, Member, operation, block, Thing, the_operation, the_block, the_region, Edit, new_operation, new_block, push_use, insert_use, replace_use, remove_use, pop_use, push_value, insert_value, remove_value, pop_value, link_after, link_before, link_front, link_back, unlink, move_region, move_use, replace_some, retarget_some, drop_uses, erase_operation, erase_block, erase_region, verdict}
 use Rattle.rules.proofs.Read.{Small}
 use Rattle.rules.specs.History.{Operation, Block, History, carry_out, slot_of, uses_in, change_slot, change_results, change_regions, change_arguments, into_block, into_region, with_operations, with_blocks, with_uses, end_uses, add_use, take_use, change_values, values_at, results_of, arguments_of, regions_of, put_in, container, emptied, region_index, drop_inside, end_inside, hand_over, place_some, operation_in, block_in, parent, defined}
 use Rattle.rules.specs.State.{State}
@@ -222,6 +222,6 @@ within_carry_out (replace_some a b us) s r z k w = within_same s.history _ (unfo
 within_carry_out (retarget_some a b ps) s r z k w = within_same s.history _ (unfold place_some with_uses in refl) (unfold place_some with_uses in refl) w
 within_carry_out (drop_uses th) s r z k w = within_drop th s.history w
 within_carry_out (erase_operation x) s r z k w = within_erase (the_operation x) s.history w
-within_carry_out (erase_block x) s r z k w = within_erase (TheBlock x) s.history w
+within_carry_out (erase_block x) s r z k w = within_erase (the_block x) s.history w
 within_carry_out (erase_region o i) s r z k w = within_erase_region o i s.history w
 within_carry_out (verdict th) s r z k w = unfold carry_out in w

@@ -11,7 +11,7 @@ use borrow.Author.Tests.{leb-true}
 use lib.Dec.{T, eqb, leb, eqb→eq}
 use lib.ListN.{length, get_or, replicate, length-replicate}
 use Rattle.rules.specs.Table.{Table, keep, any, find, find_key, items, keys, change, change_all, keep_keys, number, nth, member, remove_at, swap_out, without, put_after, put_before, some_and, is_some, up, one, count}
-use Rattle.edit.specs.Record.{Slot, operand, successor, Member, operation, block, Thing, the_operation, TheBlock, the_region, Definition, Edit, new_operation, new_block, push_use, insert_use, replace_use, remove_use, pop_use, push_value, insert_value, remove_value, pop_value, link_after, link_before, link_front, link_back, unlink, move_region, move_use, replace_some, retarget_some, drop_uses, erase_operation, erase_block, erase_region, verdict}
+use Rattle.edit.specs.Record.{Slot, operand, successor, Member, operation, block, Thing, the_operation, the_block, the_region, Definition, Edit, new_operation, new_block, push_use, insert_use, replace_use, remove_use, pop_use, push_value, insert_value, remove_value, pop_value, link_after, link_before, link_front, link_back, unlink, move_region, move_use, replace_some, retarget_some, drop_uses, erase_operation, erase_block, erase_region, verdict}
 use Rattle.rules.specs.History.{Operation, Block, Five, History, births, bear, begin, carry_out, remember, change_slot, change_results, change_regions, change_arguments, into_block, into_region, with_operations, with_blocks, with_uses, end_uses, add_use, take_use, change_values, put_in, container, emptied, region_index, drop_inside, end_inside, hand_over, place_some, region_climb, block_climb, operation_in, block_in, region_in, parent, block_of_op, region_of, regions_of, block_at, region_at, is_operation, is_block, is_region, defined, live_operation, live_block, live_region}
 use Rattle.rules.specs.Orders.{no_orders, lists, or_empty, list_at, containers, live_member, live_container, if_same, still_live, new_lists, order, reorder}
 use Rattle.rules.specs.State.{State, accept, start}
@@ -711,7 +711,7 @@ listed_edit m (replace_some a b us) s t n r l k w = listed_alike m s.history _ t
 listed_edit m (retarget_some a b ps) s t n r l k w = listed_alike m s.history _ t (unfold remember bear carry_out place_some with_uses in (alike_same s.history _ refl refl)) w
 listed_edit m (drop_uses th) s t n r l k w = born_listed m (drop_uses th) s.history t (unfold carry_out in (listed_alike m s.history _ t (alike_drop th s.history) w))
 listed_edit m (erase_operation x) s t n r l k w = erased_listed m _ _ (the_operation x) s.history _ t n.hung n.owning.ordered.ops n.owning.regions (unfold remember bear carry_out end_inside in (erased_thing (the_operation x) _ s.history _ n.owning.ordered.ops refl refl)) w
-listed_edit m (erase_block x) s t n r l k w = erased_listed m _ _ (TheBlock x) s.history _ t n.hung n.owning.ordered.ops n.owning.regions (unfold remember bear carry_out end_inside in (erased_thing (TheBlock x) _ s.history _ n.owning.ordered.ops refl refl)) w
+listed_edit m (erase_block x) s t n r l k w = erased_listed m _ _ (the_block x) s.history _ t n.hung n.owning.ordered.ops n.owning.regions (unfold remember bear carry_out end_inside in (erased_thing (the_block x) _ s.history _ n.owning.ordered.ops refl refl)) w
 listed_edit m (erase_region o i) s t n r l k w = erased_listed m _ _ (the_region (region_index o i s.history)) s.history _ t n.hung n.owning.ordered.ops n.owning.regions (unfold remember bear carry_out end_inside with_operations in (erased_region o i _ s.history _ n.owning.ordered.ops refl refl)) w
 listed_edit m (verdict th) s t n r l k w = listed_alike m s.history _ t (unfold remember bear carry_out in (alike_same s.history _ refl refl)) w
 

@@ -7,7 +7,7 @@ use Prim.Native.Nat.{ℕ, ◌-◌}
 use lib.Dec.{T, eqb, leb, eqb_refl}
 use lib.ListN.{length, get_or, set}
 use Rattle.rules.specs.Table.{Table, any, find, items, change, change_all, keep_keys, gather, number, member, remove_at, swap_out, is_some}
-use Rattle.edit.specs.Record.{Slot, operand, successor, Member, operation, block, Thing, the_operation, TheBlock, the_region, Definition, of_value, of_block, Edit, new_operation, new_block, push_use, insert_use, replace_use, remove_use, pop_use, push_value, insert_value, remove_value, pop_value, link_after, link_before, link_front, link_back, unlink, move_region, move_use, replace_some, retarget_some, drop_uses, erase_operation, erase_block, erase_region, verdict}
+use Rattle.edit.specs.Record.{Slot, operand, successor, Member, operation, block, Thing, the_operation, the_block, the_region, Definition, of_value, of_block, Edit, new_operation, new_block, push_use, insert_use, replace_use, remove_use, pop_use, push_value, insert_value, remove_value, pop_value, link_after, link_before, link_front, link_back, unlink, move_region, move_use, replace_some, retarget_some, drop_uses, erase_operation, erase_block, erase_region, verdict}
 use Rattle.rules.specs.History.{Operation, Block, Five, History, births, plus, bear, carry_out, remember, live_value, live_block, live_definition, same_definition, defined, change_slot, change_results, change_regions, change_arguments, into_block, into_region, with_operations, with_blocks, with_uses, end_uses, add_use, take_use, change_values, values_at, results_of, arguments_of, put_in, emptied, drop_inside, end_inside, hand_over, place_some, uses_of, operation_in, block_in, parent, region_index}
 use Rattle.rules.specs.State.{State, accept}
 use Rattle.rules.specs.Refusal.{Name, block_named, value_named, definition_named, named, check, missing, first_missing, from_state, refusal_of, value_used, values_length, used_outside, definitions_in, meets}
@@ -356,7 +356,7 @@ held_carry_out (replace_some a b us) s r l k t = held_place_some (of_value a) (o
 held_carry_out (retarget_some a b ps) s r l k t = held_place_some (of_block a) (of_block b) _ s.history (found_definition s.history successor b l.1.0) t
 held_carry_out (drop_uses th) s r l k t = held_drop th s.history t
 held_carry_out (erase_operation n) s r l k t = held_erase (the_operation n) s.history (zero_first _ 14 0 tt (zero_first _ 13 _ tt k).1).0 t
-held_carry_out (erase_block n) s r l k t = held_erase (TheBlock n) s.history (zero_first _ 14 0 tt (zero_first _ 13 _ tt k).1).0 t
+held_carry_out (erase_block n) s r l k t = held_erase (the_block n) s.history (zero_first _ 14 0 tt (zero_first _ 13 _ tt k).1).0 t
 held_carry_out (erase_region o i) s r l k t =
     held_change (end_inside (the_region (region_index o i s.history)) s.history) o (change_regions (remove_at i)) (λ v q r. unfold change_regions in r)
     (held_erase (the_region (region_index o i s.history)) s.history (zero_first _ 14 0 tt (zero_first _ 12 _ tt k).1).0 t)

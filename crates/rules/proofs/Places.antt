@@ -10,7 +10,7 @@ use native.Mathlib.Nat.{not-suc-le-zero, add-zero, zero-add, le_of_suc-le-suc, s
 use lib.Dec.{T, eqb, leb, eqb→eq, eqb_refl, leb→le, nleb→lt, not_T}
 use lib.ListN.{length, get_or, set, length-append, length-map}
 use Rattle.rules.specs.Table.{Table, find, keys, change, change_all, keep_keys, gather, number, member, insert_at, remove_at, swap_out, is_some, up, one, count, weigh}
-use Rattle.edit.specs.Record.{Slot, operand, successor, Member, operation, block, Thing, the_operation, TheBlock, the_region, Definition, of_value, of_block, Edit, new_operation, new_block, push_use, insert_use, replace_use, remove_use, pop_use, push_value, insert_value, remove_value, pop_value, link_after, link_before, link_front, link_back, unlink, move_region, move_use, replace_some, retarget_some, drop_uses, erase_operation, erase_block, erase_region, verdict}
+use Rattle.edit.specs.Record.{Slot, operand, successor, Member, operation, block, Thing, the_operation, the_block, the_region, Definition, of_value, of_block, Edit, new_operation, new_block, push_use, insert_use, replace_use, remove_use, pop_use, push_value, insert_value, remove_value, pop_value, link_after, link_before, link_front, link_back, unlink, move_region, move_use, replace_some, retarget_some, drop_uses, erase_operation, erase_block, erase_region, verdict}
 use Rattle.rules.specs.History.{Operation, Five, History, births, bear, plus, zeros, carry_out, remember, live_operation, slot_of, uses_in, all_uses_in, defined, change_slot, change_results, change_regions, change_arguments, into_block, into_region, with_operations, with_blocks, with_uses, end_uses, add_use, take_use, change_values, put_in, emptied, uses_inside, drop_inside, end_inside, hand_over, place_some, operation_in, parent, region_index, begin}
 use Rattle.rules.specs.State.{State, accept, start}
 use Rattle.rules.specs.Refusal.{operation_named, named, check, missing, first_missing, from_state, refusal_of, slot_length}
@@ -449,7 +449,7 @@ loose_carry_out (replace_some a b us) s r l k t = more _ _ (loose_place _ _ _ _ 
 loose_carry_out (retarget_some a b ps) s r l k t = more _ _ (loose_place _ _ _ _ s.history t)
 loose_carry_out (drop_uses th) s r l k t = more _ _ (loose_drop th _ s.history t)
 loose_carry_out (erase_operation n) s r l k t = more _ _ (loose_erase (the_operation n) _ s.history t)
-loose_carry_out (erase_block n) s r l k t = more _ _ (loose_erase (TheBlock n) _ s.history t)
+loose_carry_out (erase_block n) s r l k t = more _ _ (loose_erase (the_block n) _ s.history t)
 loose_carry_out (erase_region o i) s r l k t = more _ _ (loose_change _ o (change_regions (remove_at i)) _ (λ u q. unfold change_regions in refl) (loose_erase (the_region (region_index o i s.history)) _ s.history t))
 loose_carry_out (verdict th) s r l k t = more _ _ t
 

@@ -9,7 +9,7 @@ use borrow.Author.Tests.{eqb-false, leb-true, leb-false}
 use lib.Dec.{T, eqb, leb, eqb→eq}
 use lib.ListN.{length, set}
 use Rattle.rules.specs.Table.{Table, find, change, keep_keys, number, nth, member, insert_at, remove_at, swap_out, some_and, up, one, count}
-use Rattle.edit.specs.Record.{Slot, operand, successor, Member, operation, block, Thing, the_operation, TheBlock, the_region, Definition, of_value, of_block, Edit, new_operation, new_block, push_use, insert_use, replace_use, remove_use, pop_use, push_value, insert_value, remove_value, pop_value, link_after, link_before, link_front, link_back, unlink, move_region, move_use, replace_some, retarget_some, drop_uses, erase_operation, erase_block, erase_region, verdict}
+use Rattle.edit.specs.Record.{Slot, operand, successor, Member, operation, block, Thing, the_operation, the_block, the_region, Definition, of_value, of_block, Edit, new_operation, new_block, push_use, insert_use, replace_use, remove_use, pop_use, push_value, insert_value, remove_value, pop_value, link_after, link_before, link_front, link_back, unlink, move_region, move_use, replace_some, retarget_some, drop_uses, erase_operation, erase_block, erase_region, verdict}
 use Rattle.rules.specs.History.{Operation, Five, History, bear, carry_out, slot_of, uses_in, change_slot, change_results, change_regions, into_block, with_operations, with_blocks, with_uses, end_uses, add_use, take_use, change_values, put_in, container, emptied, region_index, drop_inside, end_inside, hand_over, place_some, operation_in, parent, user, block_at, same_definition, defined}
 use Rattle.rules.specs.State.{State}
 use Rattle.rules.specs.Refusal.{check, from_state}
@@ -346,7 +346,7 @@ sorts_carry_out (replace_some a b us) s r p k w = unfold carry_out in (sorts_pla
 sorts_carry_out (retarget_some a b ps) s r p k w = unfold carry_out in (sorts_place (of_block a) (of_block b) (λ u. some_and (user s.history u) (λ o. some_and (block_at s.history o) (λ c. member c ps))) s.history (unfold sort_of in refl) w)
 sorts_carry_out (drop_uses th) s r p k w = unfold carry_out in (sorts_drop th s.history w)
 sorts_carry_out (erase_operation x) s r p k w = unfold carry_out in (sorts_erase (the_operation x) s.history w)
-sorts_carry_out (erase_block x) s r p k w = unfold carry_out in (sorts_erase (TheBlock x) s.history w)
+sorts_carry_out (erase_block x) s r p k w = unfold carry_out in (sorts_erase (the_block x) s.history w)
 sorts_carry_out (erase_region o i) s r p k w = sorts_erase_region o i s.history w
 sorts_carry_out (verdict th) s r p k w = unfold carry_out in w
 

@@ -10,7 +10,7 @@ use borrow.Author.Tests.{eq-eqb, eqb-false, leb-true, leb-false, ltb-true, ltb-f
 use lib.Dec.{T, eqb, leb, ltb, eqb→eq}
 use lib.ListN.{length, get_or, length-append, length-map}
 use Rattle.rules.specs.Table.{Table, find, change, change_all, keep_keys, number, nth, when, or_before, member, remove_at, swap_out, some_and, is_some, one, count}
-use Rattle.edit.specs.Record.{Slot, operand, successor, Member, operation, block, Thing, the_operation, TheBlock, the_region, Definition, of_value, of_block, Edit, new_operation, new_block, push_use, insert_use, replace_use, remove_use, pop_use, push_value, insert_value, remove_value, pop_value, link_after, link_before, link_front, link_back, unlink, move_region, move_use, replace_some, retarget_some, drop_uses, erase_operation, erase_block, erase_region, verdict}
+use Rattle.edit.specs.Record.{Slot, operand, successor, Member, operation, block, Thing, the_operation, the_block, the_region, Definition, of_value, of_block, Edit, new_operation, new_block, push_use, insert_use, replace_use, remove_use, pop_use, push_value, insert_value, remove_value, pop_value, link_after, link_before, link_front, link_back, unlink, move_region, move_use, replace_some, retarget_some, drop_uses, erase_operation, erase_block, erase_region, verdict}
 use Rattle.rules.specs.History.{Operation, History, births, bear, zeros, carry_out, remember, slot_of, uses_in, change_regions, with_operations, with_blocks, with_uses, end_uses, add_use, take_use, change_values, put_in, region_index, uses_inside, drop_inside, end_inside, hand_over, place_some, operation_in, block_in, parent, user, block_at, same_definition, defined, live_operation, live_block}
 use Rattle.rules.specs.State.{State}
 use Rattle.rules.specs.Refusal.{operation_named, named, check, from_state, slot_length}
@@ -141,7 +141,7 @@ operations_told (replace_some a b us) h n r = same_is _ n false _ (find h.operat
 operations_told (retarget_some a b ps) h n r = same_is _ n false _ (find h.operations n) refl refl
 operations_told (drop_uses th) h n r = same_is _ n false _ (find h.operations n) refl (dropped_op _ h.operations n)
 operations_told (erase_operation x) h n r = kept_is _ n (operation_in h (the_operation x)) h.operations
-operations_told (erase_block x) h n r = kept_is _ n (operation_in h (TheBlock x)) h.operations
+operations_told (erase_block x) h n r = kept_is _ n (operation_in h (the_block x)) h.operations
 operations_told (erase_region o i) h n r = region_kept_is o i _ n h
 operations_told (verdict th) h n r = same_is _ n false _ (find h.operations n) refl refl
 
@@ -187,7 +187,7 @@ blocks_told (replace_some a b us) h n r = same_is _ n false _ (find h.blocks n) 
 blocks_told (retarget_some a b ps) h n r = same_is _ n false _ (find h.blocks n) refl refl
 blocks_told (drop_uses th) h n r = same_is _ n false _ (find h.blocks n) refl refl
 blocks_told (erase_operation x) h n r = kept_is _ n (block_in h (the_operation x)) h.blocks
-blocks_told (erase_block x) h n r = kept_is _ n (block_in h (TheBlock x)) h.blocks
+blocks_told (erase_block x) h n r = kept_is _ n (block_in h (the_block x)) h.blocks
 blocks_told (erase_region o i) h n r = kept_is _ n (block_in h (the_region (region_index o i h))) h.blocks
 blocks_told (verdict th) h n r = same_is _ n false _ (find h.blocks n) refl refl
 
@@ -405,7 +405,7 @@ uses_read (replace_some a b us) s u alive pl r w l k e = use_place _ u alive pl 
 uses_read (retarget_some a b ps) s u alive pl r w l k e = use_place _ u alive pl (of_block a) (of_block b) (λ v. some_and (user s.history v) (λ o. some_and (block_at s.history o) (λ c. member c ps))) s.history e
 uses_read (drop_uses th) s u alive pl r w l k e = use_ends _ u alive pl (uses_inside s.history th) s.history.uses e
 uses_read (erase_operation x) s u alive pl r w l k e = use_ends _ u alive pl (uses_inside s.history (the_operation x)) s.history.uses e
-uses_read (erase_block x) s u alive pl r w l k e = use_ends _ u alive pl (uses_inside s.history (TheBlock x)) s.history.uses e
+uses_read (erase_block x) s u alive pl r w l k e = use_ends _ u alive pl (uses_inside s.history (the_block x)) s.history.uses e
 uses_read (erase_region o i) s u alive pl r w l k e = use_ends _ u alive pl (uses_inside s.history (the_region (region_index o i s.history))) s.history.uses e
 uses_read (verdict th) s u alive pl r w l k e = use_same _ u alive pl _ e
 

@@ -9,7 +9,7 @@ use borrow.Author.Tests.{leb-true, leb-false}
 use lib.Dec.{eqb, leb}
 use lib.ListN.{length}
 use Rattle.rules.specs.Table.{Table, change, keep_keys, remove_at, swap_out, up, count}
-use Rattle.edit.specs.Record.{Slot, operand, successor, Member, operation, block, Thing, the_operation, TheBlock, the_region, Definition, Edit, new_operation, new_block, push_use, insert_use, replace_use, remove_use, pop_use, push_value, insert_value, remove_value, pop_value, link_after, link_before, link_front, link_back, unlink, move_region, move_use, replace_some, retarget_some, drop_uses, erase_operation, erase_block, erase_region, verdict}
+use Rattle.edit.specs.Record.{Slot, operand, successor, Member, operation, block, Thing, the_operation, the_block, the_region, Definition, Edit, new_operation, new_block, push_use, insert_use, replace_use, remove_use, pop_use, push_value, insert_value, remove_value, pop_value, link_after, link_before, link_front, link_back, unlink, move_region, move_use, replace_some, retarget_some, drop_uses, erase_operation, erase_block, erase_region, verdict}
 use Rattle.rules.specs.History.{Operation, Block, Five, History, births, bear, plus, zeros, begin, carry_out, remember, change_slot, change_results, change_regions, change_arguments, into_block, into_region, with_operations, with_blocks, with_uses, end_uses, add_use, take_use, change_values, put_in, emptied, region_index, drop_inside, end_inside, hand_over, place_some, operation_in, block_in, parent, defined}
 use Rattle.rules.specs.State.{State, accept, start}
 use Rattle.rules.proofs.Places.{count_append, count_insert, up_below, up_past, up_once}
@@ -138,7 +138,7 @@ values_grown (replace_some x y us) h r q = v_none _ (λ v. omega arith)
 values_grown (retarget_some x y ps) h r q = v_none _ (λ v. omega arith)
 values_grown (drop_uses th) h r q = v_drop th
 values_grown (erase_operation n) h r q = v_erase (the_operation n)
-values_grown (erase_block n) h r q = v_erase (TheBlock n)
+values_grown (erase_block n) h r q = v_erase (the_block n)
 values_grown (erase_region o i) h r q = v_erase_region o i
 values_grown (verdict th) h r q = v_none h (λ v. omega arith)
 

@@ -9,7 +9,7 @@ use native.Mathlib.Omega.{arith}
 use borrow.Author.Tests.{ne_eqb}
 use lib.Dec.{T, eqb, eqb→eq}
 use Rattle.rules.specs.Table.{Table, Rising, spread, find, find_key, remake, change, member, is_some, one, count}
-use Rattle.edit.specs.Record.{successor, Thing, the_operation, TheBlock, the_region, verdict}
+use Rattle.edit.specs.Record.{successor, Thing, the_operation, the_block, the_region, verdict}
 use Rattle.rules.specs.History.{Operation, Block, uses_in, live_operation, live_block, live_region, parent}
 use Rattle.rules.specs.Orders.{Orders}
 use Rattle.rules.specs.State.{State, accept, number_at, or_zero}
@@ -128,7 +128,7 @@ module _ (s t : State) (w : Quiet s t) where
   same_missing : (th : Thing) → missing t.history (thing_named th) ≡ missing s.history (thing_named th)
   unfolding missing thing_named live_operation live_block live_region parent
   same_missing (the_operation n) = ap (λ (b : Bool). check b 0 7) (sym (some_remake bones t.history.operations n) ∙ ap (λ (x : Table Bones). is_some (find x n)) w.ops ∙ some_remake bones s.history.operations n)
-  same_missing (TheBlock n) = ap (λ (b : Bool). check b 0 8) (sym (some_remake region_in t.history.blocks n) ∙ ap (λ (x : Table (Option ℕ)). is_some (find x n)) w.blks ∙ some_remake region_in s.history.blocks n)
+  same_missing (the_block n) = ap (λ (b : Bool). check b 0 8) (sym (some_remake region_in t.history.blocks n) ∙ ap (λ (x : Table (Option ℕ)). is_some (find x n)) w.blks ∙ some_remake region_in s.history.blocks n)
   same_missing (the_region r) = ap (λ (o : Option ℕ). check (is_some o) 0 9) (sym (owner t) ∙ ap (find_key (λ (x : Bones). member r x.regions)) w.ops ∙ owner s)
     where
       owner : (z : State) → find_key (λ (x : Bones). member r x.regions) (remake bones z.history.operations) ≡ find_key (λ (o : Operation). member r o.regions) z.history.operations

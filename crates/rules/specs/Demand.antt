@@ -3,7 +3,7 @@
 use Rattle.std.specs.Prelude.{◌≡◌, Bool, not, List, [], ◌∷◌, ◌++◌, map, ℕ, ◌+◌, T, eqb, length}
 use Rattle.std.proofs.Math.Option.{Option, none, some}
 use Rattle.rules.specs.Table.{find, is_some, some_and, items, keys, concat, nth, sum_over, one, count, next_of, previous_of}
-use Rattle.edit.specs.Record.{Slot, operand, successor, Member, operation, block, Thing, the_operation, TheBlock, the_region, Definition, of_value, of_block, Edit}
+use Rattle.edit.specs.Record.{Slot, operand, successor, Member, operation, block, Thing, the_operation, the_block, the_region, Definition, of_value, of_block, Edit}
 use Rattle.rules.specs.History.{Operation, Block, History, live_operation, live_block, live_region, live_definition, same_definition, slot_of, uses_of, block_at, region_at, parent, container}
 use Rattle.rules.specs.Orders.{lists, list_at}
 use Rattle.rules.specs.State.{State}
@@ -53,14 +53,14 @@ as_thing f (some n) = some (f n)
 
 -- the block of an operation, the region of a block, the operation of a region
 unfoldable pub up_from : History → Thing → Option Thing
-up_from h (the_operation n) = as_thing TheBlock (block_at h n)
-up_from h (TheBlock b) = as_thing the_region (region_at h b)
+up_from h (the_operation n) = as_thing the_block (block_at h n)
+up_from h (the_block b) = as_thing the_region (region_at h b)
 up_from h (the_region r) = as_thing the_operation (parent h r)
 
 -- is it live?
 unfoldable pub live_thing : History → Thing → Bool
 live_thing h (the_operation n) = live_operation h n
-live_thing h (TheBlock n) = live_block h n
+live_thing h (the_block n) = live_block h n
 live_thing h (the_region n) = live_region h n
 
 -- every live value and block, once for each place of a value
@@ -99,7 +99,7 @@ sort_of (of_block b) = successor
 
 -- the block in which operations stand, the region in which blocks stand
 unfoldable pub container_thing : Member → ℕ → Thing
-container_thing operation n = TheBlock n
+container_thing operation n = the_block n
 container_thing block n = the_region n
 
 -- how often a definition stands in the list
@@ -131,7 +131,7 @@ module _ (v : View) (log : List Edit) where
     -- first sentence: a use, operation or block is held just if an accepted edit gave birth to it and none since has ended it
     pub use_held : (u : ℕ) → v.holds_use u ≡ use_lives log u
     pub operation_held : (n : ℕ) → v.holds (the_operation n) ≡ operation_lives log n
-    pub block_held : (n : ℕ) → v.holds (TheBlock n) ≡ block_lives log n
+    pub block_held : (n : ℕ) → v.holds (the_block n) ≡ block_lives log n
     -- second sentence, first half: a held use is in one use set, of a live definition, the one last placed at
     pub use_defined : (u : ℕ) → T (v.holds_use u) → HeldBy u
     -- + live is live by the history

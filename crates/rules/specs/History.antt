@@ -3,7 +3,7 @@
 use Rattle.std.specs.Prelude.{Bool, false, not, cond, ◌&&◌, ◌||◌, List, [], ◌∷◌, ◌++◌, map, ℕ, zero, suc, ◌+◌, ◌-◌, eqb, length, get_or, set}
 use Rattle.std.proofs.Math.Option.{Option, none, some}
 use Rattle.rules.specs.Table.{Table, keys_where, gather, any, insert_at, remove_at, is_some, some_and, find, find_key, items, change, change_all, keep_keys, number, up, member, swap_out}
-use Rattle.edit.specs.Record.{Slot, operand, successor, Member, operation, block, Thing, the_operation, TheBlock, the_region, Definition, of_value, of_block, Edit, new_operation, new_block, push_use, insert_use, replace_use, remove_use, pop_use, push_value, insert_value, remove_value, pop_value, link_after, link_before, link_front, link_back, unlink, move_region, move_use, replace_some, retarget_some, drop_uses, erase_operation, erase_block, erase_region, verdict}
+use Rattle.edit.specs.Record.{Slot, operand, successor, Member, operation, block, Thing, the_operation, the_block, the_region, Definition, of_value, of_block, Edit, new_operation, new_block, push_use, insert_use, replace_use, remove_use, pop_use, push_value, insert_value, remove_value, pop_value, link_after, link_before, link_front, link_back, unlink, move_region, move_use, replace_some, retarget_some, drop_uses, erase_operation, erase_block, erase_region, verdict}
 
 -- an operation: its results (values), its operands and successors (uses), its regions, and its block or none
 pub record Operation : Type 0 where
@@ -149,19 +149,19 @@ module _ (h : History) where
 -- is the thing this operation?
 unfoldable pub is_operation : Thing → ℕ → Bool
 is_operation (the_operation a) n = eqb a n
-is_operation (TheBlock a) n = false
+is_operation (the_block a) n = false
 is_operation (the_region a) n = false
 
 -- is it this block?
 unfoldable pub is_block : Thing → ℕ → Bool
 is_block (the_operation a) n = false
-is_block (TheBlock a) n = eqb a n
+is_block (the_block a) n = eqb a n
 is_block (the_region a) n = false
 
 -- is it this region?
 unfoldable pub is_region : Thing → ℕ → Bool
 is_region (the_operation a) n = false
-is_region (TheBlock a) n = false
+is_region (the_block a) n = false
 is_region (the_region a) n = eqb a n
 
 module _ (h : History) (t : Thing) where
@@ -394,7 +394,7 @@ carry_out (retarget_some a b ps) h =
     place_some (of_block a) (of_block b) (λ u. some_and (user h u) (λ o. some_and (block_at h o) (λ c. member c ps))) h
 carry_out (drop_uses t) h = drop_inside t h
 carry_out (erase_operation n) h = end_inside (the_operation n) h
-carry_out (erase_block n) h = end_inside (TheBlock n) h
+carry_out (erase_block n) h = end_inside (the_block n) h
 carry_out (erase_region o i) h =
     let ended : History = end_inside (the_region (region_index o i h)) h in
     with_operations ended (change o (change_regions (remove_at i)) ended.operations)

@@ -3,7 +3,7 @@
 use Rattle.std.specs.Prelude.{Bool, true, false, cond, ◌||◌, List, [], ◌∷◌, ◌++◌, map, ℕ, ◌-◌, eqb, leb, ltb, length, get_or}
 use Rattle.std.proofs.Math.Option.{Option, none, some}
 use Rattle.rules.specs.Table.{keep, any, is_some, some_and, find, items, concat, gather}
-use Rattle.edit.specs.Record.{Slot, operand, successor, Member, operation, block, Thing, the_operation, TheBlock, the_region, Definition, of_value, of_block, Edit, new_operation, new_block, push_use, insert_use, replace_use, remove_use, pop_use, push_value, insert_value, remove_value, pop_value, link_after, link_before, link_front, link_back, unlink, move_region, move_use, replace_some, retarget_some, drop_uses, erase_operation, erase_block, erase_region, verdict}
+use Rattle.edit.specs.Record.{Slot, operand, successor, Member, operation, block, Thing, the_operation, the_block, the_region, Definition, of_value, of_block, Edit, new_operation, new_block, push_use, insert_use, replace_use, remove_use, pop_use, push_value, insert_value, remove_value, pop_value, link_after, link_before, link_front, link_back, unlink, move_region, move_use, replace_some, retarget_some, drop_uses, erase_operation, erase_block, erase_region, verdict}
 use Rattle.rules.specs.History.{Five, zeros, Operation, Block, History, live_operation, live_block, live_region, live_value, parent, uses_of, slot_of, regions_of, same_definition, defined, operation_in, block_in, region_in, births, values_at, container, region_index, drop_inside}
 use Rattle.rules.specs.State.{State}
 use Rattle.rules.specs.Verdict.{sight, verdict_on, stray_user}
@@ -30,7 +30,7 @@ definition_named successor n = block_named n
 -- the field of 36 to 38 and 42 to 44
 unfoldable pub thing_named : Thing → Name
 thing_named (the_operation n) = operation_named n
-thing_named (TheBlock n) = block_named n
+thing_named (the_block n) = block_named n
 thing_named (the_region n) = region_named n
 
 -- the names in an edit's fields, from left to right. Index, flags, count, type and use fields name nothing here, nor do the listed numbers of 34
@@ -110,7 +110,7 @@ module _ (h : History) where
   -- 17: the container c lies in the thing x, or is it
   unfoldable pub contained_in : Member → ℕ → ℕ → Bool
   contained_in operation x c = block_in h (the_operation x) c
-  contained_in block x c = region_in h (TheBlock x) c
+  contained_in block x c = region_in h (the_block x) c
 
   -- how many operands or successors operation o has
   unfoldable pub slot_length : Slot → ℕ → ℕ
@@ -218,9 +218,9 @@ module _ (s : State) where
       check (meets s.history (map of_value (values_at operation n s.history)) out) 13
       (check (meets s.history (definitions_in s.history (the_operation n)) out) 14 0)
   from_state (erase_block n) =
-      let out : List Definition = used_outside s.history (TheBlock n) in
+      let out : List Definition = used_outside s.history (the_block n) in
       check (meets s.history (direct s.history n) out) 13
-      (check (meets s.history (definitions_in s.history (TheBlock n)) out) 14 0)
+      (check (meets s.history (definitions_in s.history (the_block n)) out) 14 0)
   from_state (erase_region o i) =
       let t : Thing = the_region (region_index o i s.history) in
       check (leb (length (regions_of (find s.history.operations o))) i) 12

@@ -3,7 +3,7 @@
 use Rattle.std.specs.Prelude.{◌≡◌, Bool, false, not, cond, ◌&&◌, ◌||◌, List, [], ◌∷◌, ◌++◌, map, ℕ, ◌+◌, ◌-◌, T, eqb, leb, ltb, length, get_or}
 use Rattle.std.proofs.Math.Option.{Option, none, some}
 use Rattle.rules.specs.Table.{find, some_and, member, nth, when, or_before}
-use Rattle.edit.specs.Record.{Slot, Thing, the_operation, TheBlock, the_region, Definition, of_value, of_block, Edit, new_operation, new_block, push_use, insert_use, replace_use, remove_use, pop_use, push_value, insert_value, remove_value, pop_value, link_after, link_before, link_front, link_back, unlink, move_region, move_use, replace_some, retarget_some, drop_uses, erase_operation, erase_block, erase_region, verdict}
+use Rattle.edit.specs.Record.{Slot, Thing, the_operation, the_block, the_region, Definition, of_value, of_block, Edit, new_operation, new_block, push_use, insert_use, replace_use, remove_use, pop_use, push_value, insert_value, remove_value, pop_value, link_after, link_before, link_front, link_back, unlink, move_region, move_use, replace_some, retarget_some, drop_uses, erase_operation, erase_block, erase_region, verdict}
 use Rattle.edit.specs.Record.{Cut, nothing, broken, whole, cut, Read, refused, asks, read}
 use Rattle.rules.specs.History.{Five, History, zeros, plus, begin, births, remember, slot_of, uses_inside, operation_in, block_in, region_index, defined, same_definition, user, block_at}
 use Rattle.rules.specs.Orders.{Orders, no_orders, reorder}
@@ -89,7 +89,7 @@ ended_uses (replace_some a b us) h = []
 ended_uses (retarget_some a b ps) h = []
 ended_uses (drop_uses t) h = uses_inside h t
 ended_uses (erase_operation n) h = uses_inside h (the_operation n)
-ended_uses (erase_block n) h = uses_inside h (TheBlock n)
+ended_uses (erase_block n) h = uses_inside h (the_block n)
 ended_uses (erase_region o i) h = uses_inside h (the_region (region_index o i h))
 ended_uses (verdict t) h = []
 
@@ -117,7 +117,7 @@ erased (replace_some a b us) h = none
 erased (retarget_some a b ps) h = none
 erased (drop_uses t) h = none
 erased (erase_operation n) h = some (the_operation n)
-erased (erase_block n) h = some (TheBlock n)
+erased (erase_block n) h = some (the_block n)
 erased (erase_region o i) h = some (the_region (region_index o i h))
 erased (verdict t) h = none
 

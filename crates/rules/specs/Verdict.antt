@@ -3,7 +3,7 @@
 use Rattle.std.specs.Prelude.{Bool, true, false, not, ◌&&◌, ◌||◌, List, [], ◌∷◌, map, ℕ, zero, suc, ◌%◌, eqb, leb, length}
 use Rattle.std.proofs.Math.Option.{Option, none, some}
 use Rattle.rules.specs.Table.{Table, any, some_and, find, find_key, items, remake, is_some, member, last_item, has_next}
-use Rattle.edit.specs.Record.{Thing, the_operation, TheBlock, the_region, Definition, of_value, of_block}
+use Rattle.edit.specs.Record.{Thing, the_operation, the_block, the_region, Definition, of_value, of_block}
 use Rattle.rules.specs.History.{Operation, Block}
 use Rattle.rules.specs.Orders.{Orders, list_at}
 use Rattle.rules.specs.State.{State, number_at}
@@ -137,5 +137,5 @@ module _ (v : Sight) where
   -- kinds 42, 43, 44: the first verdict met, or 18, or a clean reply
   unfoldable pub verdict_on : Thing → Reply
   verdict_on (the_operation o) = operation_verdict (length v.operations) o
-  verdict_on (TheBlock b) = block_verdict_by (operation_verdict (length v.operations)) b
+  verdict_on (the_block b) = block_verdict_by (operation_verdict (length v.operations)) b
   verdict_on (the_region r) = region_verdict_by (operation_verdict (length v.operations)) r

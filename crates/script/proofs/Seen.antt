@@ -11,7 +11,7 @@ use native.Mathlib.Omega.{arith}
 use borrow.Author.Tests.{ne_eqb}
 use lib.ListN.{length, length-map}
 use Rattle.seqs.specs.Seqs.{count, In}
-use Rattle.edit.specs.Record.{Slot, Member, operation, block, Thing, the_operation, TheBlock, the_region, Definition, of_value, of_block}
+use Rattle.edit.specs.Record.{Slot, Member, operation, block, Thing, the_operation, the_block, the_region, Definition, of_value, of_block}
 use Rattle.rules.specs.Table.{Table, find, is_some, items, keys, keys_where, concat, one}
 use Rattle.rules.specs.Table.{count as rcount}
 use Rattle.rules.specs.History.{Operation, Block, History, slot_of, block_of_op, block_at, region_of, region_at, parent, live_region, live_definition, same_definition, uses_of, container}
@@ -94,9 +94,9 @@ module _ {P : State} (S : Sound P) (e : ℕ) where
       go : Spot P op n → lives P (op, n) ≡ live_thing h (the_operation n)
       go (here p z l m) = yes_lives P op n z ∙ sym (operation_live S e p n l m)
       go (nowhere z d) = no_lives P op n z ∙ sym (operation_dead S e n d)
-  thing_lives (TheBlock n) = go (spot P blk n)
+  thing_lives (the_block n) = go (spot P blk n)
     where
-      go : Spot P blk n → lives P (blk, n) ≡ live_thing h (TheBlock n)
+      go : Spot P blk n → lives P (blk, n) ≡ live_thing h (the_block n)
       go (here p z l m) = yes_lives P blk n z ∙ sym (block_live S e p n l m)
       go (nowhere z d) = no_lives P blk n z ∙ sym (block_dead S e n d)
   thing_lives (the_region n) = go (spot P reg n)
@@ -153,11 +153,11 @@ module _ {P : State} (S : Sound P) (e : ℕ) where
   up_same (the_operation n) = go (spot P op n)
     where
       go : Spot P op n → see_up P (the_operation n) ≡ up_from h (the_operation n)
-      go (here p z l m) = ap (as_thing TheBlock) (above_here P op n z ∙ sym (container_is S e operation p n l m))
-      go (nowhere z d) = ap (as_thing TheBlock) (above_gone P op n z ∙ sym (container_gone operation n d))
-  up_same (TheBlock n) = go (spot P blk n)
+      go (here p z l m) = ap (as_thing the_block) (above_here P op n z ∙ sym (container_is S e operation p n l m))
+      go (nowhere z d) = ap (as_thing the_block) (above_gone P op n z ∙ sym (container_gone operation n d))
+  up_same (the_block n) = go (spot P blk n)
     where
-      go : Spot P blk n → see_up P (TheBlock n) ≡ up_from h (TheBlock n)
+      go : Spot P blk n → see_up P (the_block n) ≡ up_from h (the_block n)
       go (here p z l m) = ap (as_thing the_region) (above_here P blk n z ∙ sym (container_is S e block p n l m))
       go (nowhere z d) = ap (as_thing the_region) (above_gone P blk n z ∙ sym (container_gone block n d))
   up_same (the_region n) = go (spot P reg n)

@@ -2,7 +2,7 @@
 -- lies in from the home cells, what stands beside it from the link cells. A use set is in the order of its chain. Assumes nothing: these are definitions.
 use Rattle.std.specs.Prelude.{Bool, List, [], ◌++◌, map, ℕ, suc, get_or}
 use Rattle.std.proofs.Math.Option.{Option, none, some}
-use Rattle.edit.specs.Record.{Member, operation, block, Thing, the_operation, TheBlock, the_region, Definition, of_value, of_block}
+use Rattle.edit.specs.Record.{Member, operation, block, Thing, the_operation, the_block, the_region, Definition, of_value, of_block}
 use Rattle.rules.specs.Table.{find, is_some, concat}
 use Rattle.rules.specs.Demand.{View, as_thing}
 use Rattle.linked_list.specs.Links.{after, before}
@@ -26,7 +26,7 @@ member_role block = blocks
 -- the kind and number that are named
 abbrev pub thing_key : Thing → Kind × ℕ
 thing_key (the_operation n) = (op, n)
-thing_key (TheBlock n) = (blk, n)
+thing_key (the_block n) = (blk, n)
 thing_key (the_region n) = (reg, n)
 
 abbrev pub definition_key : Definition → Kind × ℕ
@@ -91,8 +91,8 @@ beside l m f cell (some p) = linked (state_of l m) (node_in f) (decode (get_or (
 
 -- what a thing lies in
 unfoldable pub see_up : State → Thing → Option Thing
-see_up P (the_operation n) = as_thing TheBlock (above P op (place_of P op n))
-see_up P (TheBlock n) = as_thing the_region (above P blk (place_of P blk n))
+see_up P (the_operation n) = as_thing the_block (above P op (place_of P op n))
+see_up P (the_block n) = as_thing the_region (above P blk (place_of P blk n))
 see_up P (the_region n) = as_thing the_operation (above P reg (place_of P reg n))
 
 -- what can be seen of the memory, of a store with these capacities

@@ -30,9 +30,9 @@ if [ -z "${RECIPE_LIB-}" ]; then
     command -v rt > /dev/null || { echo "missing: the Rattle kit (rt), or RECIPE_LIB" >&2; exit 1; }
     echo "== static library (proves what is not proved yet: some minutes the first time)"
     log=$(mktemp)
-    rt staticlib ffi > "$log" 2>&1 || { tail -n 20 "$log" >&2; rm -f "$log"; exit 1; }
+    (cd crates/ffi && rt lib) > "$log" 2>&1 || { tail -n 20 "$log" >&2; rm -f "$log"; exit 1; }
     rm -f "$log"
-    RECIPE_LIB=$PWD/target/staticlib/libffi.a
+    RECIPE_LIB=$PWD/crates/ffi/out/libffi.a
 fi
 export RECIPE_LIB
 

@@ -38,6 +38,7 @@ export RECIPE_LIB
 
 echo "== declarations"
 tests/signatures.py
+cmp differential/recorded.bin crates/replay/stdin
 # What docs/EMBEDDING.md says of the library: it gives eight names, has no variables of its own and wants nothing but memmove and memset.
 [ "$(nm -g --defined-only "$RECIPE_LIB" | grep -c ' T recipe_')" = 8 ]
 [ "$(nm -g --defined-only "$RECIPE_LIB" | grep -c ' [A-Z] ')" = 8 ]

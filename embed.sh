@@ -30,14 +30,15 @@ if [ -z "${RECIPE_LIB-}" ]; then
     command -v rt > /dev/null || { echo "missing: the Rattle kit (rt), or RECIPE_LIB" >&2; exit 1; }
     echo "== static library (proves what is not proved yet: some minutes the first time)"
     log=$(mktemp)
-    rt staticlib ffi > "$log" 2>&1 || { tail -n 20 "$log" >&2; rm -f "$log"; exit 1; }
+    (cd crates/ffi && rt lib) > "$log" 2>&1 || { tail -n 20 "$log" >&2; rm -f "$log"; exit 1; }
     rm -f "$log"
-    RECIPE_LIB=$PWD/target/staticlib/libffi.a
+    RECIPE_LIB=$PWD/crates/ffi/out/libffi.a
 fi
 export RECIPE_LIB
 
 echo "== declarations"
 tests/signatures.py
+cmp differential/recorded.bin crates/replay/stdin
 # What docs/EMBEDDING.md says of the library: it gives eight names, has no variables of its own and wants nothing but memmove and memset.
 [ "$(nm -g --defined-only "$RECIPE_LIB" | grep -c ' T recipe_')" = 8 ]
 [ "$(nm -g --defined-only "$RECIPE_LIB" | grep -c ' [A-Z] ')" = 8 ]

@@ -5,17 +5,19 @@ set -eu
 here=$(cd "$(dirname "$0")" && pwd)
 file=$(realpath "$1")
 cd "$here"
+program=crates/recipe/out/recipe
 kept=$(mktemp)
 trap 'rm -f "$kept"' EXIT
-if [ ! -x target/bin/recipe ]; then
+if [ ! -x "$program" ]; then
     echo "proving and building the program: some minutes the first time" >&2
-    rt check recipe > "$kept" 2>&1 || { tail -n 20 "$kept" >&2; exit 1; }
+    # `rt run` also runs it, here on no input.
+    (cd crates/recipe && rt run) < /dev/null > "$kept" 2>&1 || { tail -n 20 "$kept" >&2; exit 1; }
 fi
 case "$file" in
 *.txt)
     # Assembled whole first: a line that is no edit ends the run here, and nothing is printed.
     tools/script assemble < "$file" > "$kept"
-    target/bin/recipe < "$kept"
+    "$program" < "$kept"
     ;;
-*) target/bin/recipe < "$file" ;;
+*) "$program" < "$file" ;;
 esac

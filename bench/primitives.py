@@ -17,10 +17,19 @@ FOUND = ("Found", "usize", "match r {\n        Found::At(p) => p,\n        Found
 
 
 def heads(text):
-    """Each public function: name, parameters, result and what it requires."""
-    for m in re.finditer(r"^pub fn (\w+)\(([^)]*)\)(?: -> (\w+))?\n((?:    \w.*\n)*)\{", text, re.M):
-        requires = [line for line in m[4].splitlines() if line.strip().startswith("requires")]
-        yield m[1], m[2], m[3], requires
+    """Each public function: name, parameters, result and what it requires, clause by clause."""
+    for m in re.finditer(r"^pub fn (\w+)\(([^)]*)\)(?: -> (\w+))?\n((?:    .*\n)*)\{", text, re.M):
+        clauses = re.findall(r"^    \w.*\n(?:     .*\n|    [^\w ].*\n)*", m[4], re.M)
+        yield m[1], m[2], m[3], [c.rstrip("\n") for c in clauses if c.strip().startswith("requires")]
+
+
+def merged(imports):
+    """The lines `ghost use` of several files as one line for each module."""
+    names = {}
+    for line in imports:
+        module, inside = re.fullmatch(r"ghost use (\S+)\.\{(.*)\};", line).groups()
+        names.setdefault(module, {}).update(dict.fromkeys(inside.split(", ")))
+    return [f"ghost use {module}.{{{', '.join(inside)}}};" for module, inside in names.items()]
 
 
 def wrapper(path, name, parameters, result, requires):
@@ -30,7 +39,7 @@ def wrapper(path, name, parameters, result, requires):
     if result == FOUND[0]:
         result, body = FOUND[1], f"    let r = {call};\n    {FOUND[2]}"
     arrow = f" -> {result}" if result else ""
-    lines = [f'#[no_mangle]\npub extern "C" fn primitive_{name}({parameters}){arrow}', *requires, "{", body, "}"]
+    lines = [f'#[unsafe(no_mangle)]\npub extern "C" fn primitive_{name}({parameters}){arrow}', *requires, "{", body, "}"]
     return "\n".join(lines)
 
 
@@ -46,15 +55,14 @@ def main(repository, copy):
     missing = [name for name in NAMES if name not in wrappers]
     if missing:
         sys.exit(f"primitives.py: not found in crate context: {missing}")
-    uses = [u.replace("Rattle·context·specs.specs.", "Rattle·context.specs.") for u in dict.fromkeys(uses)]
-    head = ["// Look-ups and primitives under C names, to be timed.", "use bits::Found;", "use context::Layout;", *uses, ""]
+    head = ["// Look-ups and primitives under C names, to be timed.", "#![tactic(auto)]", "", *merged(uses), "", "use bits::Found;", "use context::Layout;", ""]
     source = copy / "crates" / CRATE / "src"
     source.mkdir(parents=True, exist_ok=True)
     (source / "lib.rt").write_text("\n".join(head) + "\n" + "\n\n".join(wrappers.values()) + "\n")
     listed = (copy / "crates.txt").read_text()
     needs = next(line for line in listed.splitlines() if line.startswith("context:")).split(":")[1]
     with open(copy / "crates.txt", "a") as crates:
-        crates.write(f"{CRATE}: context{needs}\n")
+        crates.write(f"{CRATE} staticlib: context{needs}\n")
 
 
 main(pathlib.Path(sys.argv[1]), pathlib.Path(sys.argv[2]))

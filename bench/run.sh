@@ -4,6 +4,6 @@
 set -eu
 cd "$(dirname "$0")"
 ./test.sh
-export RECIPE_LIB="$PWD/../target/staticlib/libffi.a" PRIMITIVES_LIB="$PWD/target/libprimitives.a"
+export RECIPE_LIB="$PWD/../crates/ffi/out/libffi.a" PRIMITIVES_LIB="$PWD/target/libprimitives.a"
 cargo build --release --offline --quiet
 taskset -c "${CORE:-1}" target/release/bench report PERFORMANCE.in.md ../docs

@@ -7,26 +7,21 @@ cd "$(dirname "$0")"
 n=${1:-400} seed=${2:-1} longest=${3:-16385}
 work=$(mktemp -d)
 trap 'rm -rf "$work"' EXIT
-mkdir -p "$work/crates"
-cp -R ../crates/edit ../crates/rules "$work/crates/"
+# without what rt keeps in each crate's out/: it finds by itself what was proved of the same text here
+tar -C .. -cf - --exclude='crates/*/out' crates/edit crates/rules | tar -C "$work" -xf -
 printf 'edit:\nrules: edit\ndefinitions: rules edit\n' >"$work/crates.txt"
-# what is proved already and unchanged is not proved again
-mkdir -p "$work/target/rlib" "$work/target/stamp"
-for c in edit rules; do
-    if [ -f "../target/stamp/$c" ]; then cp -R "../target/rlib/$c.rlib" "$work/target/rlib/" && cp "../target/stamp/$c" "$work/target/stamp/"; fi
-done
 cargo run -q --release --offline -j1 -- definitions "$work/crates/definitions" "$n" "$seed" "$longest"
-rows=$(cat "$work"/crates/definitions/specs/Rows*.antt | grep -c '^pub row-')
+rows=$(cat "$work"/crates/definitions/specs/Rows*.antt | grep -c '^pub row_')
 
 # Checks the statements: prints the rows that are refused, each on a line; nothing where all are proved.
 refused() {
-    if (cd "$work" && RT_JOBS=1 rt check definitions) >"$work/log" 2>&1; then
+    if (cd "$work/crates/definitions" && rt check --jobs 1) >"$work/log" 2>&1; then
         return
     fi
-    grep -o 'error: `row-[0-9]*`' "$work/log" | grep -o 'row-[0-9]*' || { cat "$work/log" >&2; exit 2; }
+    grep -o 'error: `row_[0-9]*`' "$work/log" | grep -o 'row_[0-9]*' || { cat "$work/log" >&2; exit 2; }
 }
 
-(cd "$work" && RT_JOBS=1 rt check rules) >"$work/log" 2>&1 || { cat "$work/log" >&2; exit 2; }
+(cd "$work/crates/rules" && rt lib --jobs 1) >"$work/log" 2>&1 || { cat "$work/log" >&2; exit 2; }
 began=$(date +%s)
 differ=$(refused)
 took=$(($(date +%s) - began))
@@ -41,7 +36,7 @@ echo "$rows scripts computed by the definitions: $((rows - count)) as the Rust, 
 printf 'pub mod Over\npub mod Rows0\n' >"$work/crates/definitions/specs/Lib.antt"
 find "$work/crates/definitions/specs" -name 'Rows*.antt' ! -name Rows0.antt -exec rm {} +
 file=$work/crates/definitions/specs/Rows0.antt
-row=$(grep -o '^pub row-[0-9]*.*"edit 0 ok 0 0"' "$file" | head -n 1 | grep -o 'row-[0-9]*')
+row=$(grep -o '^pub row_[0-9]*.*"edit 0 ok 0 0"' "$file" | head -n 1 | grep -o 'row_[0-9]*')
 sed -i "/^pub $row :/s/\"edit 0 ok 0 0\"/\"edit 0 ok 0 1\"/" "$file"
 [ "$(refused)" = "$row" ] || { echo "a wrong digit in the listing of $row is not refused"; exit 1; }
 echo "a wrong digit in the listing of $row is refused"

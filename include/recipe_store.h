@@ -1,4 +1,4 @@
-/* The recipe store: the functions of target/staticlib/libffi.a (made by `rt staticlib ffi`).
+/* The recipe store: the functions of crates/ffi/out/libffi.a (made by `rt lib` in crates/ffi).
    A slice is a pointer and a count of elements. All memory is the caller's; nothing is allocated and nothing is kept between calls.
    Two calls must not use one buffer at the same time. docs/FORMAT.md says what records, answers and refusals mean. */
 #ifndef RECIPE_STORE_H

@@ -1,6 +1,7 @@
 /* The deepest nest at the largest capacities: built, judged, dropped and erased, each on a thread whose stack is looked at afterwards.
 
-     rt staticlib ffi && cc -I include tests/deepest_nest.c target/staticlib/libffi.a -lpthread -o target/deepest_nest && target/deepest_nest
+     (cd crates/ffi && rt lib) && mkdir -p target
+     cc -I include tests/deepest_nest.c crates/ffi/out/libffi.a -lpthread -o target/deepest_nest && target/deepest_nest
 
    An operation with a region, in it a block, in it an operation with a region, and so on, 1,024 operations deep, as many as there can be regions;
    each uses the result of the one around it. Prints the stack that each call took. Ends with 1 if a reply is not the expected one or a call takes

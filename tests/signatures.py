@@ -35,7 +35,7 @@ def of_c(parameter):
 
 
 def rattle():
-    found = re.findall(r'#\[no_mangle\]\s+pub extern "C" fn (\w+)\(([^)]*)\)\s*->\s*(\w+)', text_of("crates/ffi/src/lib.rt"))
+    found = re.findall(r'#\[unsafe\(no_mangle\)\]\s+pub extern "C" fn (\w+)\(([^)]*)\)\s*->\s*(\w+)', text_of("crates/ffi/src/lib.rt"))
     return {name: (sum((of_rattle(p.split(":")[1].strip()) for p in parts(given)), []), result) for name, given, result in found}
 
 

@@ -14,27 +14,24 @@ const IN_A_FILE: usize = 25;
 /// The program's listing with the capacities as an argument, for scripts over other stores.
 const OVER: &str = "-- What the program would print with other capacities.
 -- Assumes nothing: this is a definition.
-use mathlib.Core.List.{List, _++_}
-use Prim.Native.Nat.{ℕ}
-use Rattle·rules.specs.History.{Five}
-use Rattle·rules.specs.State.{start}
-use Rattle·rules.specs.Script.{Ran, run}
-use Rattle·rules.specs.Listing.{edit-lines, listing}
+use Rattle.std.specs.Prelude.{List, ◌++◌, ℕ}
+use Rattle.rules.specs.History.{Five}
+use Rattle.rules.specs.State.{start}
+use Rattle.rules.specs.Script.{Ran, run}
+use Rattle.rules.specs.Listing.{edit_lines, listing}
 
 -- as printed of specs/Listing.antt, over these capacities
-unfoldable pub printed-over : Five → List ℕ → List ℕ
-printed-over five script = let r : Ran = run 4096 (start five) script in edit-lines 0 (r .answers) ++ listing (r .state)
+unfoldable pub printed_over : Five → List ℕ → List ℕ
+printed_over five script = let r : Ran = run 4096 (start five) script in edit_lines 0 r.answers ++ listing r.state
 ";
 
 const HEAD: &str = "-- Scripts as bytes, and what the Rust gives for them.
 -- Assumes nothing.
-use mathlib.Core.List.{List, [], _∷_}
-use Prim.Native.Nat.{ℕ}
-use lib.Dec.{T}
-use Rattle·rules.specs.History.{Five}
-use Rattle·rules.specs.Listing.{output}
-use Rattle·rules.specs.Examples.{computing, same, lines}
-use Rattle·definitions·specs.specs.Over.{printed-over}
+use Rattle.std.specs.Prelude.{List, [], ◌∷◌, ℕ, T}
+use Rattle.rules.specs.History.{Five}
+use Rattle.rules.specs.Listing.{output}
+use Rattle.rules.specs.Examples.{computing, same, lines}
+use Rattle.definitions.specs.Over.{printed_over}
 ";
 
 /// The first records of the seed's script: as many as fit into a bound that varies by the seed.
@@ -59,9 +56,9 @@ fn list<T: ToString>(items: impl Iterator<Item = T>) -> String {
 fn row(k: usize, script: &[u8], capacities: Capacities, listing: &str) -> String {
     let [o, b, r, v, u] = capacities;
     let five = format!("(record {{ operations = {o}; blocks = {b}; regions = {r}; values = {v}; uses = {u} }})");
-    let given = if capacities == PROGRAM { "output".into() } else { format!("printed-over {five}") };
+    let given = if capacities == PROGRAM { "output".into() } else { format!("printed_over {five}") };
     let (bytes, lines) = (list(script.iter()), list(listing.lines().map(|l| format!("{l:?}"))));
-    format!("\npub row-{k} : T (same ({given} ({bytes})) (lines ({lines})))\nunfolding computing output printed-over same lines\nrow-{k} = tt\n")
+    format!("\npub row_{k} : T (same ({given} ({bytes})) (lines ({lines})))\nunfolding computing output printed_over same lines\nrow_{k} = tt\n")
 }
 
 /// Writes the crate: n random short scripts from the seed on, and the recorded ones up to so many bytes.
@@ -71,7 +68,7 @@ pub fn write(folder: &Path, n: u64, seed: u64, longest: usize) -> std::io::Resul
     let scripts: Vec<(Vec<u8>, Capacities)> = recorded.chain(random).collect();
     fs::create_dir_all(folder.join("src"))?;
     fs::create_dir_all(folder.join("specs"))?;
-    fs::write(folder.join("src/lib.rt"), "// Scripts and what the Rust gives for them: see specs/. Nothing of this crate runs.\n")?;
+    fs::write(folder.join("src/lib.rt"), "// Scripts and what the Rust gives for them: see specs/. Nothing of this crate runs.\n#![tactic(auto)]\n")?;
     fs::write(folder.join("specs/Over.antt"), OVER)?;
     let (mut modules, mut coverage, mut bytes) = (String::from("pub mod Over\n"), Coverage::new(), 0);
     for (f, chunk) in scripts.chunks(IN_A_FILE).enumerate() {

@@ -1,5 +1,5 @@
 /* The worked example of README.md in C: starts a store, runs the script, prints the listing, reads the uses of a value.
-   cc -Wall -Wextra -Werror -I include examples/c/first.c target/staticlib/libffi.a -o first && ./first examples/first.bin */
+   cc -Wall -Wextra -Werror -I include examples/c/first.c crates/ffi/out/libffi.a -o first && ./first examples/first.bin */
 #include <stdio.h>
 #include <stdlib.h>
 #include "recipe_store.h"

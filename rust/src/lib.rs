@@ -1,6 +1,6 @@
 //! The recipe store for Rust: a mutable store of operations, blocks, regions, values and uses, in memory that the caller lends.
 //!
-//! The store itself is the proved library (`rt staticlib ffi`), linked statically. This crate is its safe face and is not proved. It allocates
+//! The store itself is the proved library (`rt lib` in `crates/ffi`), linked statically. This crate is its safe face and is not proved. It allocates
 //! nothing and keeps nothing between calls. `docs/FORMAT.md` says what every edit does and when it is refused; `docs/EMBEDDING.md` has sizes,
 //! threads and lifetimes.
 //!

@@ -31,7 +31,7 @@ use Rattle.context.proofs.Performing.{refuses, accepts}
 use Rattle.bits.specs.declared.Found.{Found}
 use Rattle.bits.specs.declared.Found.TheVariants.{At, Nothing}
 use Rattle.walk.specs.declared.Tally.{Tally}
-use Rattle.walk.specs.Drop.{walked, CanDrop, Dropped, zeros, Tallied}
+use Rattle.walk.specs.Drop.{walked, CanDrop, zeros, Tallied}
 use Rattle.walk.proofs.Nested.{operations_are}
 use Rattle.walk.proofs.EraseWalk.{code≤}
 
@@ -65,10 +65,6 @@ module _ {P : State} (S : Sound P) (e : ℕ) where
 -- what the look-up found
 pub live_at : (P : State) (k : Kind) (n p : ℕ) {a : Found} → Finds P k n a → a ≡ At p → Live P (k, p) × (num P (k, p) ≡ n)
 live_at P k n p F e = subst (λ (b : Found). Finds P k n b) e F
-
--- a walk that began with a tally of zeros
-pub tallied : {l : Layout} {x : Thing} {m m' : List ℕ} {n r : ℕ} {t : Tally} → Dropped l x (walked n zeros) m m' (walked r t) → Tallied l x m m' t
-tallied D = record { store = D.store; rest = D.rest; state = D.state; freed = omega (arith, D.numbers.freed); ended = omega (arith, D.numbers.ended) }
 
 module _ {l : Layout} {m : List ℕ} (S : SoundStore l m) where
   abbrev P : State

@@ -15,7 +15,6 @@ use Rattle.context.specs.Layout.{kind_of, fam_of, nc_of}
 use Rattle.context.specs.Memory.{part, state_of, SoundStore, head_code, FirstIs}
 use Rattle.context.specs.Steps.{CanEnd, Ended}
 use Rattle.context.proofs.Places.{place<}
-use Rattle.walk.specs.Drop.{Walked, CanDrop, Dropped}
 use Rattle.walk.specs.Erase.{CanErase, Erased, OwnEnded, inner_code}
 use Rattle.walk.proofs.DropWalk.{Nests, in_op, in_region, in_block, first_code, kid_is, kid_lives}
 use Rattle.walk.proofs.EraseLaws.{Erasing, begins, reads, still_free, shrinks, goes_on, empty, ends, left_kids, still_live, own_none, own_measure, own_rest, own_free, own_live, to_free, from_free}
@@ -180,9 +179,3 @@ can_end_as P k j p e C = subst (λ (i : ℕ). CanEnd P (kind_of i, p)) e C
 
 pub ended_as : {l : Layout} {m m' : List ℕ} (k j p : ℕ) → k ≡ j → Ended l (kind_of j, p) m m' → Ended l (kind_of k, p) m m'
 ended_as {l} {m} {m'} k j p e E = subst (λ (i : ℕ). Ended l (kind_of i, p) m m') (sym e) E
-
-pub can_drop_as : {l : Layout} {w : Walked} {m : List ℕ} (k j p : ℕ) → k ≡ j → CanDrop l (kind_of k, p) w m → CanDrop l (kind_of j, p) w m
-can_drop_as {l} {w} {m} k j p e C = subst (λ (i : ℕ). CanDrop l (kind_of i, p) w m) e C
-
-pub dropped_as : {l : Layout} {w r : Walked} {m m' : List ℕ} (k j p : ℕ) → k ≡ j → Dropped l (kind_of j, p) w m m' r → Dropped l (kind_of k, p) w m m' r
-dropped_as {l} {w} {r} {m} {m'} k j p e D = subst (λ (i : ℕ). Dropped l (kind_of i, p) w m m' r) (sym e) D

@@ -25,12 +25,6 @@ pub birth_at-requires : goal.birth_at-requires
 birth_at-requires c =
     (c.requires.0.table, (c.requires.1.1, ((low (goal.at.birth_at-requires c).In-At).inside, (low (goal.at.birth_at-requires c).In-At).free)))
 
--- ??? part-flip-start : tie.Need-slice-bounds-flip-start
--- part-flip-start c = search rules
-
--- ??? part-flip-end : tie.Need-slice-bounds-flip-end
--- part-flip-end c = search rules
-
 pub flip-requires : goal.flip-requires
 flip-requires c =
     let a : ℕ = cells c.args.n in

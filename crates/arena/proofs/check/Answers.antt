@@ -26,12 +26,6 @@ slice_bounds-check_table-end c = sym (cut (goal.at.slice_bounds-check_table-end 
 pub returns-then-not-k : goal.returns-then-not-k
 returns-then-not-k c P = says_no c.check_table-k.result (Table c.args.n (front c.args.n c.args.m.now)) c.if-not-k.true c.check_table-k.ensures P.table
 
--- ??? part-check-spare-start : tie.Need-slice-bounds-check-spare-start
--- part-check-spare-start c = search rules
-
--- ??? part-check-spare-end : tie.Need-slice-bounds-check-spare-end
--- part-check-spare-end c = search rules
-
 pub returns-then-not-e : goal.returns-then-not-e
 returns-then-not-e c P =
     let n : ℕ = c.args.n in
@@ -40,12 +34,6 @@ returns-then-not-e c P =
 
 pub slice_bounds-check_marks-end : goal.slice_bounds-check_marks-end
 slice_bounds-check_marks-end c = sym (cut (goal.at.slice_bounds-check_marks-end c).Else-m-a)
-
--- ??? part-check-marks-start : tie.Need-slice-bounds-check-marks-start
--- part-check-marks-start c = search rules
-
--- ??? part-check-marks-end : tie.Need-slice-bounds-check-marks-end
--- part-check-marks-end c = search rules
 
 pub check_marks-requires : goal.check_marks-requires
 check_marks-requires c =

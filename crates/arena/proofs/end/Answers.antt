@@ -11,12 +11,6 @@ use Rattle.arena.proofs.Parts.{tail_kept, front_now, back_now, long_now}
 use Rattle.arena.proofs.Marks.{gone}
 use Rattle.arena.proofs.end.Goals as goal
 
--- ??? part-flip-start : tie.Need-slice-bounds-flip-start
--- part-flip-start c = search rules
-
--- ??? part-flip-end : tie.Need-slice-bounds-flip-end
--- part-flip-end c = search rules
-
 pub returns : goal.returns
 returns c =
     let a : ℕ = cells c.args.n in

@@ -8,12 +8,6 @@ use Rattle.arena.proofs.Parts.{tail_is}
 use Rattle.arena.proofs.Marks.{lowest_sign}
 use Rattle.arena.proofs.free_place.Goals as goal
 
--- ??? part-lowest-free-start : tie.Need-slice-bounds-lowest-free-start
--- part-lowest-free-start c = search rules
-
--- ??? part-lowest-free-end : tie.Need-slice-bounds-lowest-free-end
--- part-lowest-free-end c = search rules
-
 pub returns : goal.returns
 returns c =
     c.lowest_free.ensures ∙ ap (λ (x : List ℕ). lowest (bit x) c.args.n) (tail_is (cells c.args.n) c.args.m.now)

@@ -18,12 +18,6 @@ slice_bounds-start-end-2 c = sym (length-take-le _ c.args.m.now (omega (arith, c
 pub start-requires : goal.start-requires
 start-requires c = (length-take-le _ c.args.m.now (omega (arith, c.requires.0)), c.requires.1)
 
--- ??? part-clear-start : tie.Need-slice-bounds-clear-start
--- part-clear-start c = search rules
-
--- ??? part-clear-end : tie.Need-slice-bounds-clear-end
--- part-clear-end c = search rules
-
 pub returns : goal.returns
 returns c =
     let a : ℕ = cells c.args.n in

@@ -10,23 +10,11 @@ use Rattle.arena_demo.proofs.end.Goals.{Else-not-ok}
 packed : (c : Else-not-ok) → Packed c.args.n c.args.m.now
 packed c = says_yes c.check-ok.result (Packed c.args.n c.args.m.now) c.if-not-ok.false c.check-ok.ensures
 
--- ??? slice-aggregate-say : tie.Need-slice-aggregate-say
--- slice-aggregate-say c = search rules
-
--- ??? slice-aggregate-say-2 : tie.Need-slice-aggregate-say-2
--- slice-aggregate-say-2 c = search rules
-
 pub is_live-alive-requires : goal.is_live-alive-requires
 is_live-alive-requires c = packed (goal.at.is_live-alive-requires c).Else-not-ok
-
--- ??? slice-aggregate-say-3 : tie.Need-slice-aggregate-say-3
--- slice-aggregate-say-3 c = search rules
 
 pub end-requires : goal.end-requires
 end-requires c =
     let P : Packed c.args.n c.args.m.now = packed (goal.at.end-requires c).Else-not-ok in
     let A : Alive c.args.n c.args.m.now c.args.p = says_yes c.is_live-alive.result (Alive c.args.n c.args.m.now c.args.p) c.if-not-alive.false c.is_live-alive.ensures in
     (P, live_stamp P.table c.args.p A)
-
--- ??? slice-aggregate-say-4 : tie.Need-slice-aggregate-say-4
--- slice-aggregate-say-4 c = search rules

@@ -9,9 +9,6 @@ use Rattle.arena_demo.proofs.fill.Goals.{Else-not-ok}
 packed : (c : Else-not-ok) → Packed c.args.n c.args.m.now
 packed c = says_yes c.check-ok.result (Packed c.args.n c.args.m.now) c.if-not-ok.false c.check-ok.ensures
 
--- ??? slice-aggregate-say : tie.Need-slice-aggregate-say invariant-loop decreases-loop
--- slice-aggregate-say c = search rules
-
 pub loop-i-init : goal.loop-i-init
 loop-i-init c = (packed (goal.at.loop-i-init c).Else-not-ok, refl)
 
@@ -21,17 +18,8 @@ try_birth-requires c = c.loop-i.invariant.0
 pub loop-i-preserved : goal.loop-i-preserved
 loop-i-preserved c = (c.try_birth.ensures, c.try_birth.auto.m ∙ c.loop-i.invariant.1)
 
--- ??? slice-aggregate-say-2 : tie.Need-slice-aggregate-say-2 invariant-loop decreases-loop
--- slice-aggregate-say-2 c = search rules
-
 pub taken-requires : goal.taken-requires
 taken-requires c = c.loop-i.invariant.0
-
--- ??? slice-aggregate-say-3 : tie.Need-slice-aggregate-say-3 invariant-loop decreases-loop
--- slice-aggregate-say-3 c = search rules
-
--- ??? slice-aggregate-say-4 : tie.Need-slice-aggregate-say-4 invariant-loop decreases-loop
--- slice-aggregate-say-4 c = search rules
 
 pub shape_of-m : goal.shape_of-m
 shape_of-m c = search (rules, c.loop-i.invariant.1)

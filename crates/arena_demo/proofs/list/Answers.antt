@@ -11,12 +11,6 @@ use Rattle.arena_demo.proofs.list.Goals.{Else-not-ok}
 packed : (c : Else-not-ok) → Packed c.args.n c.args.m.now
 packed c = says_yes c.check-ok.result (Packed c.args.n c.args.m.now) c.if-not-ok.false c.check-ok.ensures
 
--- ??? slice-aggregate-say : tie.Need-slice-aggregate-say invariant-loop decreases-loop
--- slice-aggregate-say c = search rules
-
--- ??? slice-aggregate-say-2 : tie.Need-slice-aggregate-say-2 invariant-loop decreases-loop
--- slice-aggregate-say-2 c = search rules
-
 pub taken-l-requires : goal.taken-l-requires
 taken-l-requires c = packed (goal.at.taken-l-requires c).Else-not-ok
 
@@ -26,19 +20,10 @@ loop-k-init c = tt
 pub nth_live-p-requires : goal.nth_live-p-requires
 nth_live-p-requires c = (packed (goal.at.nth_live-p-requires c).Else-not-ok, omega (arith, c.taken-l.ensures))
 
--- ??? slice-aggregate-say-3 : tie.Need-slice-aggregate-say-3 invariant-loop decreases-loop
--- slice-aggregate-say-3 c = search rules
-
 pub number_at-requires : goal.number_at-requires
 number_at-requires c =
     let P : Packed c.args.n c.args.m.now = packed (goal.at.number_at-requires c).Else-not-ok in
     (P, subst (Alive c.args.n c.args.m.now) (sym c.nth_live-p.ensures) (nth_live P.table c.loop-k.k (omega (arith, c.taken-l.ensures))))
 
--- ??? slice-aggregate-say-4 : tie.Need-slice-aggregate-say-4 invariant-loop decreases-loop
--- slice-aggregate-say-4 c = search rules
-
 pub loop-k-preserved : goal.loop-k-preserved
 loop-k-preserved c = tt
-
--- ??? slice-aggregate-say-5 : tie.Need-slice-aggregate-say-5 invariant-loop decreases-loop
--- slice-aggregate-say-5 c = search rules

@@ -2,12 +2,6 @@ use Rattle.context.proofs.Books.{room_asked, borne}
 use Rattle.context.specs.Layout.{kind_of}
 use Rattle.context.proofs.bear.Goals as goal
 
--- ??? part-birth-start : tie.Need-slice-bounds-birth-start
--- part-birth-start c = search rules
-
--- ??? part-birth-end : tie.Need-slice-bounds-birth-end
--- part-birth-end c = search rules
-
 pub birth-requires : goal.birth-requires
 birth-requires c =
     let r = c.table_span-s in

@@ -2,12 +2,6 @@ use Rattle.context.proofs.Books.{packed, finds}
 use Rattle.context.specs.Layout.{kind_of}
 use Rattle.context.proofs.find.Goals as goal
 
--- ??? part-find-start : tie.Need-slice-bounds-find-start
--- part-find-start c = search rules
-
--- ??? part-find-end : tie.Need-slice-bounds-find-end
--- part-find-end c = search rules
-
 pub find-requires : goal.find-requires
 find-requires c =
     let r = c.table_span-s in

@@ -2,12 +2,6 @@ use Rattle.context.proofs.Books.{live_asked, finished}
 use Rattle.context.specs.Layout.{kind_of}
 use Rattle.context.proofs.finish.Goals as goal
 
--- ??? part-end-start : tie.Need-slice-bounds-end-start
--- part-end-start c = search rules
-
--- ??? part-end-end : tie.Need-slice-bounds-end-end
--- part-end-end c = search rules
-
 pub end-requires : goal.end-requires
 end-requires c =
     let r = c.table_span-s in

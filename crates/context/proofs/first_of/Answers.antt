@@ -3,12 +3,6 @@ use Rattle.context.specs.Layout.{fam_of}
 use mathlib.Core.Path.{◌∙◌}
 use Rattle.context.proofs.first_of.Goals as goal
 
--- ??? part-get-head-start : tie.Need-slice-bounds-get-head-start
--- part-get-head-start c = search rules
-
--- ??? part-get-head-end : tie.Need-slice-bounds-get-head-end
--- part-get-head-end c = search rules
-
 pub get_head-requires : goal.get_head-requires
 get_head-requires c =
     let r = c.family_span-s in

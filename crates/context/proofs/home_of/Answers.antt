@@ -2,12 +2,6 @@ use Rattle.context.proofs.Thin.{home_is, home_asked}
 use Rattle.context.specs.Layout.{fam_of}
 use Rattle.context.proofs.home_of.Goals as goal
 
--- ??? part-get-home-start : tie.Need-slice-bounds-get-home-start
--- part-get-home-start c = search rules
-
--- ??? part-get-home-end : tie.Need-slice-bounds-get-home-end
--- part-get-home-end c = search rules
-
 pub get_home-requires : goal.get_home-requires
 get_home-requires c =
     let r = c.family_span-s in

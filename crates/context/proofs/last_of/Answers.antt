@@ -4,12 +4,6 @@ use Rattle.context.specs.Layout.{fam_of}
 use mathlib.Core.Path.{◌∙◌}
 use Rattle.context.proofs.last_of.Goals as goal
 
--- ??? part-get-tail-start : tie.Need-slice-bounds-get-tail-start
--- part-get-tail-start c = search rules
-
--- ??? part-get-tail-end : tie.Need-slice-bounds-get-tail-end
--- part-get-tail-end c = search rules
-
 pub get_tail-requires : goal.get_tail-requires
 get_tail-requires c =
     let r = c.family_span-s in

@@ -2,12 +2,6 @@ use Rattle.context.proofs.Books.{packed, live_is}
 use Rattle.context.specs.Layout.{kind_of}
 use Rattle.context.proofs.live_count.Goals as goal
 
--- ??? part-taken-start : tie.Need-slice-bounds-taken-start
--- part-taken-start c = search rules
-
--- ??? part-taken-end : tie.Need-slice-bounds-taken-end
--- part-taken-end c = search rules
-
 pub taken-requires : goal.taken-requires
 taken-requires c =
     let r = c.table_span-s in

@@ -3,12 +3,6 @@ use Rattle.context.specs.Layout.{kind_of}
 use native.Mathlib.Omega.{arith}
 use Rattle.context.proofs.next_number.Goals as goal
 
--- ??? part-upcoming-start : tie.Need-slice-bounds-upcoming-start
--- part-upcoming-start c = search rules
-
--- ??? part-upcoming-end : tie.Need-slice-bounds-upcoming-end
--- part-upcoming-end c = search rules
-
 pub upcoming-requires : goal.upcoming-requires
 upcoming-requires c =
     let r = c.table_span-s in

@@ -2,12 +2,6 @@ use Rattle.context.proofs.Neighbours.{node_asked, next_is}
 use Rattle.context.specs.Layout.{fam_of}
 use Rattle.context.proofs.next_of.Goals as goal
 
--- ??? part-get-next-start : tie.Need-slice-bounds-get-next-start
--- part-get-next-start c = search rules
-
--- ??? part-get-next-end : tie.Need-slice-bounds-get-next-end
--- part-get-next-end c = search rules
-
 pub get_next-requires : goal.get_next-requires
 get_next-requires c =
     let r = c.family_span-s in

@@ -2,12 +2,6 @@ use Rattle.context.proofs.Books.{nth_asked, nth_live_is}
 use Rattle.context.specs.Layout.{kind_of}
 use Rattle.context.proofs.nth_live.Goals as goal
 
--- ??? part-nth-live-start : tie.Need-slice-bounds-nth-live-start
--- part-nth-live-start c = search rules
-
--- ??? part-nth-live-end : tie.Need-slice-bounds-nth-live-end
--- part-nth-live-end c = search rules
-
 pub nth_live-requires : goal.nth_live-requires
 nth_live-requires c =
     let r = c.table_span-s in

@@ -2,12 +2,6 @@ use Rattle.context.proofs.Neighbours.{nth_asked, nth_is}
 use Rattle.context.specs.Layout.{fam_of}
 use Rattle.context.proofs.nth_of.Goals as goal
 
--- ??? part-nth-start : tie.Need-slice-bounds-nth-start
--- part-nth-start c = search rules
-
--- ??? part-nth-end : tie.Need-slice-bounds-nth-end
--- part-nth-end c = search rules
-
 pub nth-requires : goal.nth-requires
 nth-requires c =
     let r = c.family_span-s in

@@ -3,12 +3,6 @@ use Rattle.context.specs.Layout.{kind_of}
 use native.Mathlib.Omega.{arith}
 use Rattle.context.proofs.number_of.Goals as goal
 
--- ??? part-number-at-start : tie.Need-slice-bounds-number-at-start
--- part-number-at-start c = search rules
-
--- ??? part-number-at-end : tie.Need-slice-bounds-number-at-end
--- part-number-at-end c = search rules
-
 pub number_at-requires : goal.number_at-requires
 number_at-requires c =
     let r = c.table_span-s in

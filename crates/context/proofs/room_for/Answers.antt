@@ -3,12 +3,6 @@ use Rattle.context.specs.Layout.{kind_of}
 use native.Mathlib.Omega.{arith}
 use Rattle.context.proofs.room_for.Goals as goal
 
--- ??? part-taken-start : tie.Need-slice-bounds-taken-start
--- part-taken-start c = search rules
-
--- ??? part-taken-end : tie.Need-slice-bounds-taken-end
--- part-taken-end c = search rules
-
 pub taken-x-requires : goal.taken-x-requires
 taken-x-requires c =
     let r = c.table_span-s in
@@ -18,12 +12,6 @@ pub returns-then-x-n : goal.returns-then-x-n
 returns-then-x-n c =
     let r = c.table_span-s in
     full c.args.l c.args.m.now (kind_of c.args.k) r.result c.requires r.ensures c.taken-x.result c.taken-x.ensures (λ h. omega (arith, h, r.ensures.capacity))
-
--- ??? part-upcoming-start : tie.Need-slice-bounds-upcoming-start
--- part-upcoming-start c = search rules
-
--- ??? part-upcoming-end : tie.Need-slice-bounds-upcoming-end
--- part-upcoming-end c = search rules
 
 pub upcoming-y-requires : goal.upcoming-y-requires
 upcoming-y-requires c =

@@ -2,12 +2,6 @@ use Rattle.context.proofs.Thin.{length_asked, length_is}
 use Rattle.context.specs.Layout.{fam_of}
 use Rattle.context.proofs.row_length.Goals as goal
 
--- ??? part-count-start : tie.Need-slice-bounds-count-start
--- part-count-start c = search rules
-
--- ??? part-count-end : tie.Need-slice-bounds-count-end
--- part-count-end c = search rules
-
 pub count-requires : goal.count-requires
 count-requires c =
     let r = c.family_span-s in

@@ -1,18 +1,6 @@
 use Rattle.context.proofs.Sparing.{spare_asked, spare_says}
 use Rattle.context.proofs.spare_ok.Goals as goal
 
--- ??? part-places-spare-start : tie.Need-slice-bounds-places-spare-start
--- part-places-spare-start c = search rules
-
--- ??? part-places-spare-end : tie.Need-slice-bounds-places-spare-end
--- part-places-spare-end c = search rules
-
--- ??? part-places-spare-start-2 : tie.Need-slice-bounds-places-spare-start-2
--- part-places-spare-start-2 c = search rules
-
--- ??? part-places-spare-end-2 : tie.Need-slice-bounds-places-spare-end-2
--- part-places-spare-end-2 c = search rules
-
 pub places_spare-requires : goal.places_spare-requires
 places_spare-requires c =
     let r = c.table_span-s in

@@ -2,12 +2,6 @@ use Rattle.context.proofs.Checking.{table_says}
 use Rattle.context.specs.Layout.{kind_of}
 use Rattle.context.proofs.table_ok.Goals as goal
 
--- ??? part-check-start : tie.Need-slice-bounds-check-start
--- part-check-start c = search rules
-
--- ??? part-check-end : tie.Need-slice-bounds-check-end
--- part-check-end c = search rules
-
 pub returns : goal.returns
 returns c =
     table_says c.args.l c.args.m.now (kind_of c.args.k) c.table_span-s.result c.table_span-s.ensures c.check.result c.check.ensures

@@ -1,7 +1,4 @@
 use Rattle.context_demo.proofs.main.Goals as goal
 
--- ??? slice-aggregate-say : tie.Need-slice-aggregate-say
--- slice-aggregate-say c = search rules
-
 pub make_block-requires : goal.make_block-requires
 make_block-requires c = (c.start-c.ensures.started c.if-c-ne0.false).sound

@@ -5,9 +5,3 @@ use Rattle.linked_list_demo.proofs.show.Goals as goal
 pub show_rows-requires : goal.show_rows-requires
 show_rows-requires c =
     let k = c.check_links in record { sizes = c.requires.sizes; linked = says_yes k.result (Linked c.args.nc c.args.nn c.args.s.now) c.if-check_links.true k.ensures }
-
--- ??? slice-aggregate-write-all : tie.Need-slice-aggregate-write-all
--- slice-aggregate-write-all c = search rules
-
--- ??? slice-aggregate-write-all-2 : tie.Need-slice-aggregate-write-all-2
--- slice-aggregate-write-all-2 c = search rules

@@ -1,18 +1,9 @@
 use Rattle.listing.proofs.Nodes.{answer_no, answer_ok}
 use Rattle.listing.proofs.put_answer.Goals as goal
 
--- ??? slice-aggregate-put-field : tie.Need-slice-aggregate-put-field
--- slice-aggregate-put-field c = search rules
-
--- ??? slice-aggregate-put-field-2 : tie.Need-slice-aggregate-put-field-2
--- slice-aggregate-put-field-2 c = search rules
-
 pub returns-then-refusal-ne0 : goal.returns-then-refusal-ne0
 returns-then-refusal-ne0 c =
     answer_no c.args.n (record { refusal = c.args.refusal; a = c.args.x; b = c.args.y }) c.put_field-a.ensures c.if-refusal-ne0.true c.put_field-b.ensures c.put_byte.ensures
-
--- ??? slice-aggregate-put-field-3 : tie.Need-slice-aggregate-put-field-3
--- slice-aggregate-put-field-3 c = search rules
 
 pub returns : goal.returns
 returns c =

@@ -9,17 +9,8 @@ use Rattle.places.specs.Store.{blk}
 use native.Mathlib.Omega.{arith}
 use Rattle.listing.proofs.put_block.Goals as goal
 
--- ??? slice-aggregate-put-field : tie.Need-slice-aggregate-put-field
--- slice-aggregate-put-field c = search rules
-
--- ??? slice-aggregate-put-home : tie.Need-slice-aggregate-put-home
--- slice-aggregate-put-home c = search rules
-
 pub put_home-b-requires : goal.put_home-b-requires
 put_home-b-requires c = record { sound_store = c.requires.sound_store; holders = Regions c.args.l; live = c.requires.live }
-
--- ??? slice-aggregate-put-row : tie.Need-slice-aggregate-put-row
--- slice-aggregate-put-row c = search rules
 
 pub overflow_add-l : goal.overflow_add-l
 overflow_add-l c =
@@ -28,14 +19,8 @@ overflow_add-l c =
 pub put_row-c-requires : goal.put_row-c-requires
 put_row-c-requires c = record { sound_store = c.requires.sound_store; q_value = refl; k_bound = omega (arith, place< c.requires.sound_store (blk, c.args.p) c.requires.live) }
 
--- ??? slice-aggregate-put-row-2 : tie.Need-slice-aggregate-put-row-2
--- slice-aggregate-put-row-2 c = search rules
-
 pub put_row-d-requires : goal.put_row-d-requires
 put_row-d-requires c = record { sound_store = c.requires.sound_store; q_value = refl; k_bound = place< c.requires.sound_store (blk, c.args.p) c.requires.live }
-
--- ??? slice-aggregate-put-uses : tie.Need-slice-aggregate-put-uses
--- slice-aggregate-put-uses c = search rules
 
 pub overflow_add-l-2 : goal.overflow_add-l-2
 overflow_add-l-2 c =

@@ -8,9 +8,6 @@ use Rattle.listing.proofs.put_home.Goals as goal
 pub home_of-h-requires : goal.home_of-h-requires
 home_of-h-requires c = record { well = c.requires.sound_store.well; n_bound = place< c.requires.sound_store (node_in (fam_of c.args.f), c.args.p) c.requires.live }
 
--- ??? slice-aggregate-put-text : tie.Need-slice-aggregate-put-text
--- slice-aggregate-put-text c = search rules
-
 pub returns-then-h-eq0 : goal.returns-then-h-eq0
 returns-then-h-eq0 c = and_then c.put_text-a.ensures (same_text (home_none c.home_of-h.ensures c.if-h-eq0.true) c.put_text.ensures)
 

@@ -7,29 +7,14 @@ use Rattle.places.specs.Store.{op}
 use native.Mathlib.Omega.{arith}
 use Rattle.listing.proofs.put_op.Goals as goal
 
--- ??? slice-aggregate-put-field : tie.Need-slice-aggregate-put-field
--- slice-aggregate-put-field c = search rules
-
--- ??? slice-aggregate-put-home : tie.Need-slice-aggregate-put-home
--- slice-aggregate-put-home c = search rules
-
 pub put_home-b-requires : goal.put_home-b-requires
 put_home-b-requires c = record { sound_store = c.requires.sound_store; holders = Blocks c.args.l; live = c.requires.live }
 
 pub flags_of-f-requires : goal.flags_of-f-requires
 flags_of-f-requires c = record { well = c.requires.sound_store.well; p_lt_ops = place< c.requires.sound_store (op, c.args.p) c.requires.live }
 
--- ??? slice-aggregate-put-field-2 : tie.Need-slice-aggregate-put-field-2
--- slice-aggregate-put-field-2 c = search rules
-
--- ??? slice-aggregate-put-row : tie.Need-slice-aggregate-put-row
--- slice-aggregate-put-row c = search rules
-
 pub put_row-d-requires : goal.put_row-d-requires
 put_row-d-requires c = record { sound_store = c.requires.sound_store; q_value = refl; k_bound = omega (arith, place< c.requires.sound_store (op, c.args.p) c.requires.live) }
-
--- ??? slice-aggregate-put-row-2 : tie.Need-slice-aggregate-put-row-2
--- slice-aggregate-put-row-2 c = search rules
 
 pub overflow_mul-p : goal.overflow_mul-p
 overflow_mul-p c =
@@ -37,9 +22,6 @@ overflow_mul-p c =
 
 pub put_row-e-requires : goal.put_row-e-requires
 put_row-e-requires c = record { sound_store = c.requires.sound_store; q_value = refl; k_bound = omega (arith, place< c.requires.sound_store (op, c.args.p) c.requires.live) }
-
--- ??? slice-aggregate-put-row-3 : tie.Need-slice-aggregate-put-row-3
--- slice-aggregate-put-row-3 c = search rules
 
 pub overflow_mul-p-2 : goal.overflow_mul-p-2
 overflow_mul-p-2 c =
@@ -51,9 +33,6 @@ overflow_add-p c =
 
 pub put_row-g-requires : goal.put_row-g-requires
 put_row-g-requires c = record { sound_store = c.requires.sound_store; q_value = refl; k_bound = omega (arith, place< c.requires.sound_store (op, c.args.p) c.requires.live) }
-
--- ??? slice-aggregate-put-row-4 : tie.Need-slice-aggregate-put-row-4
--- slice-aggregate-put-row-4 c = search rules
 
 pub put_row-h-requires : goal.put_row-h-requires
 put_row-h-requires c = record { sound_store = c.requires.sound_store; q_value = refl; k_bound = omega (arith, place< c.requires.sound_store (op, c.args.p) c.requires.live) }

@@ -6,17 +6,8 @@ use Rattle.rules.specs.Listing as rules
 use Rattle.places.specs.Store.{reg}
 use Rattle.listing.proofs.put_region.Goals as goal
 
--- ??? slice-aggregate-put-field : tie.Need-slice-aggregate-put-field
--- slice-aggregate-put-field c = search rules
-
--- ??? slice-aggregate-put-home : tie.Need-slice-aggregate-put-home
--- slice-aggregate-put-home c = search rules
-
 pub put_home-b-requires : goal.put_home-b-requires
 put_home-b-requires c = record { sound_store = c.requires.sound_store; holders = Operations c.args.l; live = c.requires.live }
-
--- ??? slice-aggregate-put-row : tie.Need-slice-aggregate-put-row
--- slice-aggregate-put-row c = search rules
 
 pub put_row-c-requires : goal.put_row-c-requires
 put_row-c-requires c = record { sound_store = c.requires.sound_store; q_value = refl; k_bound = place< c.requires.sound_store (reg, c.args.p) c.requires.live }

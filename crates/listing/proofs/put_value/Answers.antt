@@ -8,17 +8,8 @@ use Rattle.context.specs.Memory.{state_of}
 use native.Mathlib.Omega.{arith}
 use Rattle.listing.proofs.put_value.Goals as goal
 
--- ??? slice-aggregate-put-field : tie.Need-slice-aggregate-put-field
--- slice-aggregate-put-field c = search rules
-
 pub type_of-t-requires : goal.type_of-t-requires
 type_of-t-requires c = record { well = c.requires.sound_store.well; p_lt_values = place< c.requires.sound_store (val, c.args.p) c.requires.live }
-
--- ??? slice-aggregate-put-field-2 : tie.Need-slice-aggregate-put-field-2
--- slice-aggregate-put-field-2 c = search rules
-
--- ??? slice-aggregate-put-uses : tie.Need-slice-aggregate-put-uses
--- slice-aggregate-put-uses c = search rules
 
 pub put_uses-c-requires : goal.put_uses-c-requires
 put_uses-c-requires c = record { sound_store = c.requires.sound_store; k_bound = omega (arith, place< c.requires.sound_store (val, c.args.p) c.requires.live); live = value_live_at c.args.l c.args.p (state_of c.args.l c.args.m.now) (place< c.requires.sound_store (val, c.args.p) c.requires.live) c.requires.live }

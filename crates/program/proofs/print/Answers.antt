@@ -1,9 +1,6 @@
 use Rattle.program.proofs.Printing.{too_long, not_long}
 use Rattle.program.proofs.print.Goals as goal
 
--- ??? slice-aggregate-put-text : tie.Need-slice-aggregate-put-text
--- slice-aggregate-put-text c = search rules
-
 pub returns-then-script-gt16384 : goal.returns-then-script-gt16384
 returns-then-script-gt16384 c = too_long c.args.script.now c.if-script-gt16384.true c.put_text.ensures
 

@@ -39,78 +39,29 @@ pub offset_bounds-m-ao : goal.offset_bounds-m-ao
 offset_bounds-m-ao c =
     omega (arith, table_end c.args.l c.args.m.now op c.table_span-o.result c.table_span-o.ensures, small_total c.requires.caps)
 
--- ??? part-check-nest-start : tie.Need-slice-bounds-check-nest-start
--- part-check-nest-start c = search rules
-
--- ??? part-check-nest-end : tie.Need-slice-bounds-check-nest-end
--- part-check-nest-end c =
---     omega (arith, table-end c.before.before.before.before.before.before.before.before.before.before.before.before.before.before.before.before.before.before.before.before.before.before.args.l c.before.before.before.before.before.before.before.before.before.before.before.before.before.before.before.before.before.before.before.before.before.before.args.m.now op c.before.before.before.before.before.before.before.before.before.before.before.before.before.before.before.before.before.before.before.table-span.result c.before.before.before.before.before.before.before.before.before.before.before.before.before.before.before.before.before.before.before.table-span.ensures, c.before.before.before.before.before.before.before.before.before.before.before.before.before.before.before.before.before.before.before.before.before.before.requires.fits)
-
 pub offset_bounds-m-ab : goal.offset_bounds-m-ab
 offset_bounds-m-ab c =
     omega (arith, table_end c.args.l c.args.m.now blk c.table_span-b.result c.table_span-b.ensures, small_total c.requires.caps)
-
--- ??? part-check-nest-start-2 : tie.Need-slice-bounds-check-nest-start-2
--- part-check-nest-start-2 c = search rules
-
--- ??? part-check-nest-end-2 : tie.Need-slice-bounds-check-nest-end-2
--- part-check-nest-end-2 c =
---     omega (arith, table-end c.before.before.before.before.before.before.before.before.before.before.before.before.before.before.before.before.before.before.before.before.before.before.before.args.l c.before.before.before.before.before.before.before.before.before.before.before.before.before.before.before.before.before.before.before.before.before.before.before.args.m.now blk c.before.before.before.before.before.before.before.before.before.before.before.before.before.before.before.before.before.table-span2.result c.before.before.before.before.before.before.before.before.before.before.before.before.before.before.before.before.before.table-span2.ensures, c.before.before.before.before.before.before.before.before.before.before.before.before.before.before.before.before.before.before.before.before.before.before.before.requires.fits)
 
 pub offset_bounds-m-ar : goal.offset_bounds-m-ar
 offset_bounds-m-ar c =
     omega (arith, table_end c.args.l c.args.m.now reg c.table_span-r.result c.table_span-r.ensures, small_total c.requires.caps)
 
--- ??? part-check-nest-start-3 : tie.Need-slice-bounds-check-nest-start-3
--- part-check-nest-start-3 c = search rules
-
--- ??? part-check-nest-end-3 : tie.Need-slice-bounds-check-nest-end-3
--- part-check-nest-end-3 c =
---     omega (arith, table-end c.before.before.before.before.before.before.before.before.before.before.before.before.before.before.before.before.before.before.before.before.before.before.before.before.args.l c.before.before.before.before.before.before.before.before.before.before.before.before.before.before.before.before.before.before.before.before.before.before.before.before.args.m.now reg c.before.before.before.before.before.before.before.before.before.before.before.before.before.before.before.table-span3.result c.before.before.before.before.before.before.before.before.before.before.before.before.before.before.before.table-span3.ensures, c.before.before.before.before.before.before.before.before.before.before.before.before.before.before.before.before.before.before.before.before.before.before.before.before.requires.fits)
-
 pub offset_bounds-m-ag : goal.offset_bounds-m-ag
 offset_bounds-m-ag c =
     omega (arith, c.family_span-g.ensures.fits, small_total c.requires.caps)
-
--- ??? part-check-nest-start-4 : tie.Need-slice-bounds-check-nest-start-4
--- part-check-nest-start-4 c = search rules
-
--- ??? part-check-nest-end-4 : tie.Need-slice-bounds-check-nest-end-4
--- part-check-nest-end-4 c =
---     omega (arith, c.before.before.before.before.before.before.before.before.before.before.family-span2.ensures.fits, c.before.before.before.before.before.before.before.before.before.before.before.before.before.before.before.before.before.before.before.before.before.before.before.before.before.requires.fits)
 
 pub offset_bounds-m-ah : goal.offset_bounds-m-ah
 offset_bounds-m-ah c =
     omega (arith, c.family_span-h.ensures.fits, small_total c.requires.caps)
 
--- ??? part-check-nest-start-5 : tie.Need-slice-bounds-check-nest-start-5
--- part-check-nest-start-5 c = search rules
-
--- ??? part-check-nest-end-5 : tie.Need-slice-bounds-check-nest-end-5
--- part-check-nest-end-5 c =
---     omega (arith, c.before.before.before.before.before.before.before.before.family-span3.ensures.fits, c.before.before.before.before.before.before.before.before.before.before.before.before.before.before.before.before.before.before.before.before.before.before.before.before.before.before.requires.fits)
-
 pub offset_bounds-m-af : goal.offset_bounds-m-af
 offset_bounds-m-af c =
     omega (arith, c.family_span-f.ensures.fits, small_total c.requires.caps)
 
--- ??? part-check-nest-start-6 : tie.Need-slice-bounds-check-nest-start-6
--- part-check-nest-start-6 c = search rules
-
--- ??? part-check-nest-end-6 : tie.Need-slice-bounds-check-nest-end-6
--- part-check-nest-end-6 c =
---     omega (arith, c.before.before.before.before.before.before.before.before.before.before.before.before.before.before.before.family-span.ensures.fits, c.before.before.before.before.before.before.before.before.before.before.before.before.before.before.before.before.before.before.before.before.before.before.before.before.before.before.before.requires.fits)
-
 pub offset_bounds-m-at : goal.offset_bounds-m-at
 offset_bounds-m-at c =
     omega (arith, c.flags_at-at.ensures.fits, small_total c.requires.caps)
-
--- ??? part-check-nest-start-7 : tie.Need-slice-bounds-check-nest-start-7
--- part-check-nest-start-7 c = search rules
-
--- ??? part-check-nest-end-7 : tie.Need-slice-bounds-check-nest-end-7
--- part-check-nest-end-7 c =
---     omega (arith, c.before.before.before.before.before.before.before.flags-at.ensures.fits, c.before.before.before.before.before.before.before.before.before.before.before.before.before.before.before.before.before.before.before.before.before.before.before.before.before.before.before.before.requires.fits, c.before.before.before.before.before.before.before.before.before.before.before.before.before.before.before.before.before.before.before.before.before.before.before.before.before.table-span.ensures.capacity)
 
 pub check_nest-requires : goal.check_nest-requires
 check_nest-requires c =

@@ -15,63 +15,21 @@ pub offset_bounds-m-ao : goal.offset_bounds-m-ao
 offset_bounds-m-ao c =
     omega (arith, table_end c.args.l c.args.m.now op c.table_span-o.result c.table_span-o.ensures, small_total c.requires.caps)
 
--- ??? part-check-uses-start : tie.Need-slice-bounds-check-uses-start
--- part-check-uses-start c = search rules
-
--- ??? part-check-uses-end : tie.Need-slice-bounds-check-uses-end
--- part-check-uses-end c =
---     omega (arith, table-end c.before.before.before.before.before.before.before.before.before.before.before.before.before.before.before.before.before.before.before.args.l c.before.before.before.before.before.before.before.before.before.before.before.before.before.before.before.before.before.before.before.args.m.now op c.before.before.before.before.before.before.before.before.before.before.before.before.before.before.before.before.before.table-span.result c.before.before.before.before.before.before.before.before.before.before.before.before.before.before.before.before.before.table-span.ensures, c.before.before.before.before.before.before.before.before.before.before.before.before.before.before.before.before.before.before.before.requires.fits)
-
 pub offset_bounds-m-ab : goal.offset_bounds-m-ab
 offset_bounds-m-ab c =
     omega (arith, table_end c.args.l c.args.m.now blk c.table_span-b.result c.table_span-b.ensures, small_total c.requires.caps)
-
--- ??? part-check-uses-start-2 : tie.Need-slice-bounds-check-uses-start-2
--- part-check-uses-start-2 c = search rules
-
--- ??? part-check-uses-end-2 : tie.Need-slice-bounds-check-uses-end-2
--- part-check-uses-end-2 c =
---     omega (arith, table-end c.before.before.before.before.before.before.before.before.before.before.before.before.before.before.before.before.before.before.before.before.args.l c.before.before.before.before.before.before.before.before.before.before.before.before.before.before.before.before.before.before.before.before.args.m.now blk c.before.before.before.before.before.before.before.before.before.before.before.before.before.before.before.table-span2.result c.before.before.before.before.before.before.before.before.before.before.before.before.before.before.before.table-span2.ensures, c.before.before.before.before.before.before.before.before.before.before.before.before.before.before.before.before.before.before.before.before.requires.fits)
-
--- ??? part-check-uses-start-3 : tie.Need-slice-bounds-check-uses-start-3
--- part-check-uses-start-3 c = search rules
-
--- ??? part-check-uses-end-3 : tie.Need-slice-bounds-check-uses-end-3
--- part-check-uses-end-3 c =
---     omega (arith, table-end c.before.before.before.before.before.before.before.before.before.before.before.before.before.before.before.before.before.before.before.before.before.args.l c.before.before.before.before.before.before.before.before.before.before.before.before.before.before.before.before.before.before.before.before.before.args.m.now val c.before.before.before.before.before.before.before.before.before.before.before.before.before.table-span3.result c.before.before.before.before.before.before.before.before.before.before.before.before.before.table-span3.ensures, c.before.before.before.before.before.before.before.before.before.before.before.before.before.before.before.before.before.before.before.before.before.requires.fits)
 
 pub offset_bounds-m-au : goal.offset_bounds-m-au
 offset_bounds-m-au c =
     omega (arith, table_end c.args.l c.args.m.now usg c.table_span-u.result c.table_span-u.ensures, small_total c.requires.caps)
 
--- ??? part-check-uses-start-4 : tie.Need-slice-bounds-check-uses-start-4
--- part-check-uses-start-4 c = search rules
-
--- ??? part-check-uses-end-4 : tie.Need-slice-bounds-check-uses-end-4
--- part-check-uses-end-4 c =
---     omega (arith, table-end c.before.before.before.before.before.before.before.before.before.before.before.before.before.before.before.before.before.before.before.before.before.before.args.l c.before.before.before.before.before.before.before.before.before.before.before.before.before.before.before.before.before.before.before.before.before.before.args.m.now usg c.before.before.before.before.before.before.before.before.before.before.before.table-span4.result c.before.before.before.before.before.before.before.before.before.before.before.table-span4.ensures, c.before.before.before.before.before.before.before.before.before.before.before.before.before.before.before.before.before.before.before.before.before.before.requires.fits)
-
 pub offset_bounds-m-aw : goal.offset_bounds-m-aw
 offset_bounds-m-aw c =
     omega (arith, c.family_span-w.ensures.fits, small_total c.requires.caps)
 
--- ??? part-check-uses-start-5 : tie.Need-slice-bounds-check-uses-start-5
--- part-check-uses-start-5 c = search rules
-
--- ??? part-check-uses-end-5 : tie.Need-slice-bounds-check-uses-end-5
--- part-check-uses-end-5 c =
---     omega (arith, c.before.before.before.before.before.before.before.before.before.family-span.ensures.fits, c.before.before.before.before.before.before.before.before.before.before.before.before.before.before.before.before.before.before.before.before.before.before.before.requires.fits)
-
 pub offset_bounds-m-ad : goal.offset_bounds-m-ad
 offset_bounds-m-ad c =
     omega (arith, c.family_span-d.ensures.fits, small_total c.requires.caps)
-
--- ??? part-check-uses-start-6 : tie.Need-slice-bounds-check-uses-start-6
--- part-check-uses-start-6 c = search rules
-
--- ??? part-check-uses-end-6 : tie.Need-slice-bounds-check-uses-end-6
--- part-check-uses-end-6 c =
---     omega (arith, c.before.before.before.before.before.before.before.family-span2.ensures.fits, c.before.before.before.before.before.before.before.before.before.before.before.before.before.before.before.before.before.before.before.before.before.before.before.before.requires.fits)
 
 pub check_uses-requires : goal.check_uses-requires
 check_uses-requires c =

@@ -8,8 +8,8 @@ use Rattle.table.specs.Table.{Ordered, count, order, stamp}
 use Rattle.table.proofs.check_order.Goals as goal
 use Rattle.table.proofs.check_order.Invariants.{So}
 
-so-more : (n : ℕ) (t : List ℕ) (prev i q s : ℕ) → So n t prev i → i < count t → q ≡ order t i → q < n → s ≡ stamp n t q → prev < s → So n t s (i + 1)
-so-more n t prev i q s S l e h f g =
+so_more : (n : ℕ) (t : List ℕ) (prev i q s : ℕ) → So n t prev i → i < count t → q ≡ order t i → q < n → s ≡ stamp n t q → prev < s → So n t s (i + 1)
+so_more n t prev i q s S l e h f g =
     let k : stamp n t (order t i) ≡ s = sym (f ∙ ap (stamp n t) e) in
     let end : (j : ℕ) → j < i + 1 → (j ≡ i) ⊎ (j < i) = λ j m. eq-or-lt_of_le {n = j} {m = i} (omega arith) in
     record {
@@ -21,8 +21,8 @@ so-more n t prev i q s S l e h f g =
       last = inr (i, omega arith, k);
     }
 
-so-not : (n : ℕ) (t : List ℕ) (prev i q s : ℕ) → So n t prev i → i < count t → q ≡ order t i → s ≡ stamp n t q → s ≤ prev → Ordered n t → ⊥
-so-not n t prev i q s S l e f g O =
+so_not : (n : ℕ) (t : List ℕ) (prev i q s : ℕ) → So n t prev i → i < count t → q ≡ order t i → s ≡ stamp n t q → s ≤ prev → Ordered n t → ⊥
+so_not n t prev i q s S l e f g O =
     let k : stamp n t (order t i) ≡ s = sym (f ∙ ap (stamp n t) e) in
     ⊎_elim (λ z. omega (arith, O.used i l)) (λ z. omega (arith, z.2, O.rising z.0 i z.1 l)) S.last
 
@@ -37,12 +37,12 @@ returns-then-n-q c O =
 pub returns-then-s-prev : goal.returns-then-s-prev
 returns-then-s-prev c O =
     let l = c.loop-i in
-    so-not _ _ l.prev l.i _ _ l.invariant.1 (omega (arith, l.invariant.0)) c.get-q.ensures c.get-s.ensures c.if-s-prev.true O
+    so_not _ _ l.prev l.i _ _ l.invariant.1 (omega (arith, l.invariant.0)) c.get-q.ensures c.get-s.ensures c.if-s-prev.true O
 
 pub loop-i-preserved : goal.loop-i-preserved
 loop-i-preserved c =
     let l = c.loop-i in
-    (l.invariant.0, so-more _ _ l.prev l.i _ _ l.invariant.1 (omega (arith, l.invariant.0)) c.get-q.ensures c.if-n-q.false c.get-s.ensures c.if-s-prev.false)
+    (l.invariant.0, so_more _ _ l.prev l.i _ _ l.invariant.1 (omega (arith, l.invariant.0)) c.get-q.ensures c.if-n-q.false c.get-s.ensures c.if-s-prev.false)
 
 pub returns : goal.returns
 returns c =

@@ -8,17 +8,17 @@ use Rattle.table.proofs.find.Goals as goal
 use Rattle.table.proofs.find.Goals.{After-get-p}
 
 -- the place at the rank
-p-in : (c : After-get-p) → c.get-p.result < c.args.n
-p-in c = omega (arith, c.get-p.ensures, c.requires.inside c.rank-k.result (omega (arith, c.get-l.ensures)))
+p_in : (c : After-get-p) → c.get-p.result < c.args.n
+p_in c = omega (arith, c.get-p.ensures, c.requires.inside c.rank-k.result (omega (arith, c.get-l.ensures)))
 
 pub rank-k-requires : goal.rank-k-requires
 rank-k-requires c = c.requires
 
 pub overflow_add-n-then-k-l : goal.overflow_add-n-then-k-l
-overflow_add-n-then-k-l c = omega (arith, p-in (goal.at.overflow_add-n-then-k-l c).After-get-p)
+overflow_add-n-then-k-l c = omega (arith, p_in (goal.at.overflow_add-n-then-k-l c).After-get-p)
 
 pub get-s-requires : goal.get-s-requires
-get-s-requires c = omega (arith, p-in (goal.at.get-s-requires c).After-get-p)
+get-s-requires c = omega (arith, p_in (goal.at.get-s-requires c).After-get-p)
 
 pub returns-then-s-x : goal.returns-then-s-x
 returns-then-s-x c =

@@ -20,8 +20,8 @@ down n t x m s p T e f h i q l =
     ⊎_elim (λ d. omega (arith, ap (λ (j : ℕ). stamp n t (order t j)) d)) (λ lt. omega (arith, T.rising m i lt l)) (eq-or-lt_of_le q)
 
 -- the place in the middle
-p-in : (c : After-get-p) → c.get-p.result < c.args.n
-p-in c =
+p_in : (c : After-get-p) → c.get-p.result < c.args.n
+p_in c =
     let l = c.loop-lo in
     omega (arith, c.get-p.ensures, c.requires.0.inside (l.lo + (l.hi - l.lo) / 2) (omega arith))
 
@@ -29,10 +29,10 @@ pub loop-lo-init : goal.loop-lo-init
 loop-lo-init c = c.requires.1
 
 pub overflow_add-n-in-loop-lo : goal.overflow_add-n-in-loop-lo
-overflow_add-n-in-loop-lo c = omega (arith, p-in (goal.at.overflow_add-n-in-loop-lo c).After-get-p)
+overflow_add-n-in-loop-lo c = omega (arith, p_in (goal.at.overflow_add-n-in-loop-lo c).After-get-p)
 
 pub get-s-requires : goal.get-s-requires
-get-s-requires c = omega (arith, p-in (goal.at.get-s-requires c).After-get-p)
+get-s-requires c = omega (arith, p_in (goal.at.get-s-requires c).After-get-p)
 
 pub loop-lo-preserved-then-s-x : goal.loop-lo-preserved-then-s-x
 loop-lo-preserved-then-s-x c =

@@ -1,12 +1,6 @@
 use Rattle.table.proofs.Shifts.{shifted}
 use Rattle.table.proofs.shift.Goals as goal
 
--- ??? part-close-gap-start : tie.Need-slice-bounds-close-gap-start
--- part-close-gap-start c = search rules
-
--- ??? part-close-gap-end : tie.Need-slice-bounds-close-gap-end
--- part-close-gap-end c = search rules
-
 pub returns : goal.returns
 returns c =
     shifted c.args.t.now c.close_gap.new.s c.args.k c.args.l c.requires.0 c.requires.1 c.close_gap.ensures

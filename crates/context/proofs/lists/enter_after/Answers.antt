@@ -2,12 +2,6 @@ use Rattle.context.specs.Layout.{fam_of}
 use Rattle.context.proofs.Marks.{beside_asked, entered_after}
 use Rattle.context.proofs.lists.enter_after.Goals as goal
 
--- ??? part-insert-after-start : tie.Need-slice-bounds-insert-after-start
--- part-insert-after-start c = search rules
-
--- ??? part-insert-after-end : tie.Need-slice-bounds-insert-after-end
--- part-insert-after-end c = search rules
-
 pub insert_after-requires : goal.insert_after-requires
 insert_after-requires c =
     let r = c.family_span-s in

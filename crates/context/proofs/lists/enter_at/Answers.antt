@@ -2,12 +2,6 @@ use Rattle.context.proofs.Thin.{enter_asked, entered_at}
 use Rattle.context.specs.Layout.{fam_of}
 use Rattle.context.proofs.lists.enter_at.Goals as goal
 
--- ??? part-insert-at-start : tie.Need-slice-bounds-insert-at-start
--- part-insert-at-start c = search rules
-
--- ??? part-insert-at-end : tie.Need-slice-bounds-insert-at-end
--- part-insert-at-end c = search rules
-
 pub insert_at-requires : goal.insert_at-requires
 insert_at-requires c =
     let r = c.family_span-s in

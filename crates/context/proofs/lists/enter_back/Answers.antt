@@ -2,12 +2,6 @@ use Rattle.context.specs.Layout.{fam_of}
 use Rattle.context.proofs.Thin.{enter_asked, entered_back}
 use Rattle.context.proofs.lists.enter_back.Goals as goal
 
--- ??? part-insert-at-back-start : tie.Need-slice-bounds-insert-at-back-start
--- part-insert-at-back-start c = search rules
-
--- ??? part-insert-at-back-end : tie.Need-slice-bounds-insert-at-back-end
--- part-insert-at-back-end c = search rules
-
 pub insert_at_back-requires : goal.insert_at_back-requires
 insert_at_back-requires c =
     let r = c.family_span-s in

@@ -2,12 +2,6 @@ use Rattle.context.specs.Layout.{fam_of}
 use Rattle.context.proofs.Marks.{beside_asked, entered_before}
 use Rattle.context.proofs.lists.enter_before.Goals as goal
 
--- ??? part-insert-before-start : tie.Need-slice-bounds-insert-before-start
--- part-insert-before-start c = search rules
-
--- ??? part-insert-before-end : tie.Need-slice-bounds-insert-before-end
--- part-insert-before-end c = search rules
-
 pub insert_before-requires : goal.insert_before-requires
 insert_before-requires c =
     let r = c.family_span-s in

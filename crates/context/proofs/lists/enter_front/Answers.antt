@@ -2,12 +2,6 @@ use Rattle.context.specs.Layout.{fam_of}
 use Rattle.context.proofs.Thin.{enter_asked, entered_at}
 use Rattle.context.proofs.lists.enter_front.Goals as goal
 
--- ??? part-insert-at-front-start : tie.Need-slice-bounds-insert-at-front-start
--- part-insert-at-front-start c = search rules
-
--- ??? part-insert-at-front-end : tie.Need-slice-bounds-insert-at-front-end
--- part-insert-at-front-end c = search rules
-
 pub insert_at_front-requires : goal.insert_at_front-requires
 insert_at_front-requires c =
     let r = c.family_span-s in

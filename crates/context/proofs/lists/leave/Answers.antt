@@ -2,12 +2,6 @@ use Rattle.context.specs.Layout.{fam_of}
 use Rattle.context.proofs.Thin.{unlink_asked, left}
 use Rattle.context.proofs.lists.leave.Goals as goal
 
--- ??? part-unlink-start : tie.Need-slice-bounds-unlink-start
--- part-unlink-start c = search rules
-
--- ??? part-unlink-end : tie.Need-slice-bounds-unlink-end
--- part-unlink-end c = search rules
-
 pub unlink-requires : goal.unlink-requires
 unlink-requires c =
     let r = c.family_span-s in

@@ -2,12 +2,6 @@ use Rattle.context.proofs.Tags.{tag_read}
 use Rattle.context.specs.Layout.{flags}
 use Rattle.context.proofs.operation.flags_of.Goals as goal
 
--- ??? part-get-cell-start : tie.Need-slice-bounds-get-cell-start
--- part-get-cell-start c = search rules
-
--- ??? part-get-cell-end : tie.Need-slice-bounds-get-cell-end
--- part-get-cell-end c = search rules
-
 pub returns : goal.returns
 returns c =
     let f = c.flags_at-a in

@@ -2,12 +2,6 @@ use Rattle.context.proofs.Tags.{tagged}
 use Rattle.context.specs.Layout.{types}
 use Rattle.context.proofs.value.put_type.Goals as goal
 
--- ??? part-put-cell-start : tie.Need-slice-bounds-put-cell-start
--- part-put-cell-start c = search rules
-
--- ??? part-put-cell-end : tie.Need-slice-bounds-put-cell-end
--- part-put-cell-end c = search rules
-
 pub returns : goal.returns
 returns c =
     let f = c.types_at-a in

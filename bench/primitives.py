@@ -12,13 +12,26 @@ NAMES = [
     "birth_use", "end_use", "move_use", "birth_op", "end_operation", "birth_block", "end_block", "birth_region", "end_region", "birth_value", "end_value",
     "link_front", "link_back", "link_after", "link_before", "unlink", "move_region",
 ]
-# An enum does not cross: a place, and a number that is none.
-FOUND = ("Found", "usize", "match r {\n        Found::At(p) => p,\n        Found::Nothing => 4294967295,\n    }")
+# An enum does not cross: each function that takes one is exported once for each of these, under its own name.
+CHOICES = {
+    "find": ["Kind::Operation", "Kind::Block", "Kind::Value", "Kind::Use"], "number_of": ["Kind::Value"], "live_count": ["Kind::Operation"],
+    "nth_live": ["Kind::Use"], "room_for": ["Kind::Use"],
+    "home_of": ["Family::UseSets", "Family::Operations"], "row_length": ["Family::Slots"], "first_of": ["Family::UseSets"],
+    "next_of": ["Family::Operations"], "last_of": ["Family::Operations"], "nth_of": ["Family::Slots"],
+    "link_front": ["Member::Operation"], "link_back": ["Member::Operation"], "link_after": ["Member::Operation"],
+    "link_before": ["Member::Operation"], "unlink": ["Member::Operation"],
+}
+ENUMS = {"Kind", "Family", "Member"}
+# Nor does an option, or a refusal: a place, and a number that is none; a code, which is 0 for none.
+RESULTS = {
+    "Option<usize>": ("usize", "match r {\n        Some(p) => p,\n        None => 4294967295,\n    }"),
+    "Result<(), Refusal>": ("u32", "match r {\n        Ok(_) => 0,\n        Err(refusal) => refusal.number(),\n    }"),
+}
 
 
 def heads(text):
     """Each public function: name, parameters, result and what it requires, clause by clause."""
-    for m in re.finditer(r"^pub fn (\w+)\(([^)]*)\)(?: -> (\w+))?\n((?:    .*\n)*)\{", text, re.M):
+    for m in re.finditer(r"^pub fn (\w+)\(([^)]*)\)(?: -> ([^\n]+))?\n((?:    .*\n)*)\{", text, re.M):
         clauses = re.findall(r"^    \w.*\n(?:     .*\n|    [^\w ].*\n)*", m[4], re.M)
         yield m[1], m[2], m[3], [c.rstrip("\n") for c in clauses if c.strip().startswith("requires")]
 
@@ -32,14 +45,24 @@ def merged(imports):
     return [f"ghost use {module}.{{{', '.join(inside)}}};" for module, inside in names.items()]
 
 
-def wrapper(path, name, parameters, result, requires):
-    passed = ", ".join(p.split(":")[0].strip() for p in parameters.split(",") if p.strip())
-    call = f"{path}::{name}({passed})"
+def wrapper(path, name, parameters, result, requires, choice=None):
+    kept, passed, clauses = [], [], requires
+    for parameter in (p.strip() for p in parameters.split(",") if p.strip()):
+        word, kind = (part.strip() for part in parameter.split(":", 1))
+        if kind in ENUMS:
+            passed.append(choice)
+            clauses = [re.sub(rf"\b{word}\b", choice.replace("::", "."), clause) for clause in clauses]
+        else:
+            kept.append(parameter)
+            passed.append(word)
+    call = f"{path}::{name}({', '.join(passed)})"
     body = f"    {call}" if result else f"    {call};"
-    if result == FOUND[0]:
-        result, body = FOUND[1], f"    let r = {call};\n    {FOUND[2]}"
+    if result in RESULTS:
+        body = f"    let r = {call};\n    {RESULTS[result][1]}"
+        result = RESULTS[result][0]
     arrow = f" -> {result}" if result else ""
-    lines = [f'#[unsafe(no_mangle)]\npub extern "C" fn primitive_{name}({parameters}){arrow}', *requires, "{", body, "}"]
+    tail = re.sub("[A-Z]", lambda m: "_" + m[0].lower(), choice.split("::")[1]) if choice else ""
+    lines = [f'#[unsafe(no_mangle)]\npub extern "C" fn primitive_{name}{tail}({", ".join(kept)}){arrow}', *clauses, "{", body, "}"]
     return "\n".join(lines)
 
 
@@ -50,12 +73,13 @@ def main(repository, copy):
         stems = [] if file.stem == "lib" else [file.stem]
         for name, parameters, result, requires in heads(text):
             if name in NAMES:
-                wrappers[name] = wrapper("::".join(["context", *stems]), name, " ".join(parameters.split()), result, requires)
+                path, flat = "::".join(["context", *stems]), " ".join(parameters.split())
+                wrappers[name] = "\n\n".join(wrapper(path, name, flat, result, requires, choice) for choice in CHOICES.get(name, [None]))
                 uses += [line for line in text.splitlines() if line.startswith("ghost use")]
     missing = [name for name in NAMES if name not in wrappers]
     if missing:
         sys.exit(f"primitives.py: not found in crate context: {missing}")
-    head = ["// Look-ups and primitives under C names, to be timed.", "#![tactic(auto)]", "", *merged(uses), "", "use bits::Found;", "use context::Layout;", ""]
+    head = ["// Look-ups and primitives under C names, to be timed.", "#![tactic(auto)]", "", *merged(uses), "", "use context::{Family, Kind, Layout};", "use edit::{Member, Refusal};", ""]
     source = copy / "crates" / CRATE / "src"
     source.mkdir(parents=True, exist_ok=True)
     (source / "lib.rt").write_text("\n".join(head) + "\n" + "\n\n".join(wrappers.values()) + "\n")

@@ -14,19 +14,23 @@ struct Layout([usize; 5]);
 mod library {
     use super::Layout;
     unsafe extern "C" {
-        pub fn primitive_find(m: *const u32, n: usize, l: Layout, kind: usize, number: u32) -> usize;
-        pub fn primitive_home_of(m: *const u32, n: usize, l: Layout, family: usize, node: usize) -> usize;
-        pub fn primitive_row_length(m: *const u32, n: usize, l: Layout, family: usize, list: usize) -> usize;
-        pub fn primitive_first_of(m: *const u32, n: usize, l: Layout, family: usize, list: usize) -> usize;
-        pub fn primitive_next_of(m: *const u32, n: usize, l: Layout, family: usize, node: usize) -> usize;
-        pub fn primitive_last_of(m: *const u32, n: usize, l: Layout, family: usize, list: usize) -> usize;
-        pub fn primitive_nth_of(m: *const u32, n: usize, l: Layout, family: usize, list: usize, index: usize) -> usize;
-        pub fn primitive_number_of(m: *const u32, n: usize, l: Layout, kind: usize, place: usize) -> u32;
-        pub fn primitive_live_count(m: *const u32, n: usize, l: Layout, kind: usize) -> usize;
-        pub fn primitive_nth_live(m: *const u32, n: usize, l: Layout, kind: usize, index: usize) -> usize;
+        pub fn primitive_find_operation(m: *const u32, n: usize, l: Layout, number: u32) -> usize;
+        pub fn primitive_find_block(m: *const u32, n: usize, l: Layout, number: u32) -> usize;
+        pub fn primitive_find_value(m: *const u32, n: usize, l: Layout, number: u32) -> usize;
+        pub fn primitive_find_use(m: *const u32, n: usize, l: Layout, number: u32) -> usize;
+        pub fn primitive_home_of_use_sets(m: *const u32, n: usize, l: Layout, node: usize) -> usize;
+        pub fn primitive_home_of_operations(m: *const u32, n: usize, l: Layout, node: usize) -> usize;
+        pub fn primitive_row_length_slots(m: *const u32, n: usize, l: Layout, list: usize) -> usize;
+        pub fn primitive_first_of_use_sets(m: *const u32, n: usize, l: Layout, list: usize) -> usize;
+        pub fn primitive_next_of_operations(m: *const u32, n: usize, l: Layout, node: usize) -> usize;
+        pub fn primitive_last_of_operations(m: *const u32, n: usize, l: Layout, list: usize) -> usize;
+        pub fn primitive_nth_of_slots(m: *const u32, n: usize, l: Layout, list: usize, index: usize) -> usize;
+        pub fn primitive_number_of_value(m: *const u32, n: usize, l: Layout, place: usize) -> u32;
+        pub fn primitive_live_count_operation(m: *const u32, n: usize, l: Layout) -> usize;
+        pub fn primitive_nth_live_use(m: *const u32, n: usize, l: Layout, index: usize) -> usize;
         pub fn primitive_flags_of(m: *const u32, n: usize, l: Layout, place: usize) -> u32;
         pub fn primitive_type_of(m: *const u32, n: usize, l: Layout, place: usize) -> u32;
-        pub fn primitive_room_for(m: *const u32, n: usize, l: Layout, kind: usize) -> u32;
+        pub fn primitive_room_for_use(m: *const u32, n: usize, l: Layout) -> u32;
         pub fn primitive_birth_use(m: *mut u32, n: usize, l: Layout, slots: usize, index: usize, set: usize) -> usize;
         pub fn primitive_end_use(m: *mut u32, n: usize, l: Layout, place: usize);
         pub fn primitive_move_use(m: *mut u32, n: usize, l: Layout, place: usize, set: usize);
@@ -38,11 +42,11 @@ mod library {
         pub fn primitive_end_region(m: *mut u32, n: usize, l: Layout, place: usize);
         pub fn primitive_birth_value(m: *mut u32, n: usize, l: Layout, list: usize, index: usize, type_: u32) -> usize;
         pub fn primitive_end_value(m: *mut u32, n: usize, l: Layout, place: usize);
-        pub fn primitive_link_front(m: *mut u32, n: usize, l: Layout, family: usize, list: usize, node: usize);
-        pub fn primitive_link_back(m: *mut u32, n: usize, l: Layout, family: usize, list: usize, node: usize);
-        pub fn primitive_link_after(m: *mut u32, n: usize, l: Layout, family: usize, mark: usize, node: usize);
-        pub fn primitive_link_before(m: *mut u32, n: usize, l: Layout, family: usize, mark: usize, node: usize);
-        pub fn primitive_unlink(m: *mut u32, n: usize, l: Layout, family: usize, node: usize);
+        pub fn primitive_link_front_operation(m: *mut u32, n: usize, l: Layout, list: usize, node: usize);
+        pub fn primitive_link_back_operation(m: *mut u32, n: usize, l: Layout, list: usize, node: usize);
+        pub fn primitive_link_after_operation(m: *mut u32, n: usize, l: Layout, mark: usize, node: usize);
+        pub fn primitive_link_before_operation(m: *mut u32, n: usize, l: Layout, mark: usize, node: usize);
+        pub fn primitive_unlink_operation(m: *mut u32, n: usize, l: Layout, node: usize);
         pub fn primitive_move_region(m: *mut u32, n: usize, l: Layout, region: usize, op: usize);
     }
 }
@@ -50,10 +54,6 @@ use library::*;
 
 const OPS: usize = 0;
 const USES: usize = 4;
-/// Families of lists.
-const SLOTS: usize = 0;
-const USE_SETS: usize = 1;
-const OPS_IN_BLOCK: usize = 4;
 /// Calls in one measurement of a primitive; so many places are free in each table.
 const CALLS: usize = 200;
 const ROUNDS: usize = 41;
@@ -120,21 +120,21 @@ impl Bench {
 
     fn look_ups(&mut self) {
         self.look_up("an empty call", OPS, |_, _, _, p| p);
-        self.look_up("`live_count`", OPS, |m, n, l, _| unsafe { primitive_live_count(m, n, l, OPS) });
-        self.look_up("`room_for` a use", OPS, |m, n, l, _| unsafe { primitive_room_for(m, n, l, USES) });
-        self.look_up("`find` an operation by its number", 0, |m, n, l, p| unsafe { primitive_find(m, n, l, 0, p as u32) });
-        self.look_up("`find` a block", 1, |m, n, l, p| unsafe { primitive_find(m, n, l, 1, p as u32) });
-        self.look_up("`find` a value", 3, |m, n, l, p| unsafe { primitive_find(m, n, l, 3, p as u32) });
-        self.look_up("`find` a use", 4, |m, n, l, p| unsafe { primitive_find(m, n, l, 4, p as u32) });
-        self.look_up("`number_of` a value", 3, |m, n, l, p| unsafe { primitive_number_of(m, n, l, 3, p) });
-        self.look_up("`nth_live` use", 4, |m, n, l, p| unsafe { primitive_nth_live(m, n, l, 4, p) });
-        self.look_up("`home_of` a use: its definition", 4, |m, n, l, p| unsafe { primitive_home_of(m, n, l, USE_SETS, p) });
-        self.look_up("`home_of` an operation: its block", 0, |m, n, l, p| unsafe { primitive_home_of(m, n, l, OPS_IN_BLOCK, p) });
-        self.look_up("`row_length` of operands", 0, |m, n, l, p| unsafe { primitive_row_length(m, n, l, SLOTS, 2 * p) });
-        self.look_up("`nth_of` operands, the first", 0, |m, n, l, p| unsafe { primitive_nth_of(m, n, l, SLOTS, 2 * p, 0) });
-        self.look_up("`first_of` a use set", 3, |m, n, l, p| unsafe { primitive_first_of(m, n, l, USE_SETS, p) });
-        self.look_up("`last_of` the operations of a block", 1, |m, n, l, p| unsafe { primitive_last_of(m, n, l, OPS_IN_BLOCK, p) });
-        self.look_up("`next_of` an operation", 0, |m, n, l, p| unsafe { primitive_next_of(m, n, l, OPS_IN_BLOCK, p) });
+        self.look_up("`live_count`", OPS, |m, n, l, _| unsafe { primitive_live_count_operation(m, n, l) });
+        self.look_up("`room_for` a use", OPS, |m, n, l, _| unsafe { primitive_room_for_use(m, n, l) });
+        self.look_up("`find` an operation by its number", 0, |m, n, l, p| unsafe { primitive_find_operation(m, n, l, p as u32) });
+        self.look_up("`find` a block", 1, |m, n, l, p| unsafe { primitive_find_block(m, n, l, p as u32) });
+        self.look_up("`find` a value", 3, |m, n, l, p| unsafe { primitive_find_value(m, n, l, p as u32) });
+        self.look_up("`find` a use", 4, |m, n, l, p| unsafe { primitive_find_use(m, n, l, p as u32) });
+        self.look_up("`number_of` a value", 3, |m, n, l, p| unsafe { primitive_number_of_value(m, n, l, p) });
+        self.look_up("`nth_live` use", 4, |m, n, l, p| unsafe { primitive_nth_live_use(m, n, l, p) });
+        self.look_up("`home_of` a use: its definition", 4, |m, n, l, p| unsafe { primitive_home_of_use_sets(m, n, l, p) });
+        self.look_up("`home_of` an operation: its block", 0, |m, n, l, p| unsafe { primitive_home_of_operations(m, n, l, p) });
+        self.look_up("`row_length` of operands", 0, |m, n, l, p| unsafe { primitive_row_length_slots(m, n, l, 2 * p) });
+        self.look_up("`nth_of` operands, the first", 0, |m, n, l, p| unsafe { primitive_nth_of_slots(m, n, l, 2 * p, 0) });
+        self.look_up("`first_of` a use set", 3, |m, n, l, p| unsafe { primitive_first_of_use_sets(m, n, l, p) });
+        self.look_up("`last_of` the operations of a block", 1, |m, n, l, p| unsafe { primitive_last_of_operations(m, n, l, p) });
+        self.look_up("`next_of` an operation", 0, |m, n, l, p| unsafe { primitive_next_of_operations(m, n, l, p) });
         self.look_up("`flags_of` an operation", 0, |m, n, l, p| unsafe { primitive_flags_of(m, n, l, p) });
         self.look_up("`type_of` a value", 3, |m, n, l, p| unsafe { primitive_type_of(m, n, l, p) });
     }
@@ -196,20 +196,20 @@ impl Bench {
             next.set((i + 1) % CALLS);
             loose[i]
         };
-        let unlink = |m, n, l, o| unsafe { primitive_unlink(m, n, l, OPS_IN_BLOCK, o) };
-        let to = |f: unsafe extern "C" fn(*mut u32, usize, Layout, usize, usize, usize)| {
+        let unlink = |m, n, l, o| unsafe { primitive_unlink_operation(m, n, l, o) };
+        let to = |f: unsafe extern "C" fn(*mut u32, usize, Layout, usize, usize)| {
             let take = &take;
             move |m, n, l, at, _| {
                 let o = take();
-                unsafe { f(m, n, l, OPS_IN_BLOCK, at, o) };
+                unsafe { f(m, n, l, at, o) };
                 o
             }
         };
-        self.pair(["`link_back`, an operation", "`unlink`"], [1, 0], to(primitive_link_back), unlink);
-        self.pair(["`link_front`", ""], [1, 0], to(primitive_link_front), unlink);
+        self.pair(["`link_back`, an operation", "`unlink`"], [1, 0], to(primitive_link_back_operation), unlink);
+        self.pair(["`link_front`", ""], [1, 0], to(primitive_link_front_operation), unlink);
         // marks: every operation but the root, which is in no block, is linked
-        self.pair(["`link_after`", ""], [0, 0], |m, n, l, at, x| to(primitive_link_after)(m, n, l, at.max(1), x), unlink);
-        self.pair(["`link_before`", ""], [0, 0], |m, n, l, at, x| to(primitive_link_before)(m, n, l, at.max(1), x), unlink);
+        self.pair(["`link_after`", ""], [0, 0], |m, n, l, at, x| to(primitive_link_after_operation)(m, n, l, at.max(1), x), unlink);
+        self.pair(["`link_before`", ""], [0, 0], |m, n, l, at, x| to(primitive_link_before_operation)(m, n, l, at.max(1), x), unlink);
         // the youngest uses are successors, three of each block (`populate`)
         self.live[USES] -= 3 * self.live[1];
         self.pair(

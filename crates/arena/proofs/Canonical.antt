@@ -1,11 +1,6 @@
 -- The whole slice is a function of the next number and of the live things: nothing of what was before stays in a free cell.
 -- Assumes nothing.
-use mathlib.Core.Path.{◌≡◌, sym, ap, ap₂, ◌∙◌, subst}
-use mathlib.Core.Logic.{⊎_elim}
-use mathlib.Core.List.{List, ◌++◌}
-use Prim.Native.Nat.{ℕ, ◌+◌, ◌-◌, ◌^◌, ◌<◌}
-use lib.ListN.{length, get_or, length-drop, take-append-drop}
-use lib.Seq.{get_or-drop}
+use Rattle.std.proofs.Common.{◌≡◌, sym, ap, ap₂, ◌∙◌, subst, ⊎_elim, List, ◌++◌, ℕ, ◌+◌, ◌-◌, ◌^◌, ◌<◌, length, get_or, length-drop, take-append-drop, get_or-drop}
 use Rattle.bits.proofs.Digits.{le_or_lt, bits_ext}
 use Rattle.table.specs.Table.{next, stamp, sign, live}
 use Rattle.table.proofs.Canon as table

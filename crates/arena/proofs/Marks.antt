@@ -1,25 +1,26 @@
 -- The map and the table agree. Assumes nothing.
-use mathlib.Core.Path.{◌≡◌, refl, sym, ap, ap₂, ◌∙◌}
-use mathlib.Core.Logic.{⊎_elim}
-use mathlib.Core.List.{List}
-use Prim.Native.Nat.{ℕ, zero, suc, ◌+◌, ◌-◌, ◌<◌}
-use native.Mathlib.Omega.{arith}
-use lib.ListN.{length}
-use Rattle.bits.specs.Map.{bit, lowest, or_else, if_zero, Flipped}
-use Rattle.bits.proofs.Digits.{same?}
-use Rattle.table.specs.Table.{Table, Born, Ended, Started, stamp, sign}
+use Rattle.std.proofs.Common.{◌≡◌, refl, sym, ap, ap₂, ◌∙◌, ⊎_elim, List, ℕ, zero, suc, ◌+◌, ◌-◌, ◌<◌, arith, length}
+use Rattle.bits.specs.Map.{bit, lowest, if_zero, Flipped}
+use Rattle.std.specs.Prelude.{Option, Some, None, IsSome}
+use Rattle.std.specs.Option.{option_or}
+use Rattle.std.proofs.lemmas.Bool.{cases_eq}
+use Rattle.table.specs.Table.{Born, Ended, Started, stamp, sign}
 use Rattle.bits.proofs.Lowest.{Low, lowest_at}
 use Rattle.table.proofs.Quick.{sign_pos}
-use Rattle.arena.specs.Packed.{Packed, Bore, Gone, Fresh, Agree, Spare, front, back, cells, words}
+use Rattle.arena.specs.Packed.{Packed, Bore, Gone, Fresh, front, back, cells, words}
 
 sign_zero : (x p : ℕ) → if_zero (sign x) p ≡ if_zero x p
 sign_zero zero p = refl
 sign_zero (suc x) p = refl
 
+pub some_of : (o : Option ℕ) → (o ≡ None → ⊥) → IsSome o
+some_of None d = absurd (d refl)
+some_of (Some x) d = refl
+
 pub lowest_sign : (f g : ℕ → ℕ) (m : ℕ) → ((i : ℕ) → i < m → f i ≡ sign (g i)) → lowest f m ≡ lowest g m
 unfolding lowest
 lowest_sign f g zero h = refl
-lowest_sign f g (suc m) h = ap₂ or_else (lowest_sign f g m (λ i l. h i (omega arith))) (ap (λ (x : ℕ). if_zero x m) (h m (omega arith)) ∙ sign_zero (g m) m)
+lowest_sign f g (suc m) h = ap₂ option_or (lowest_sign f g m (λ i l. h i (omega arith))) (ap (λ (x : ℕ). if_zero x m) (h m (omega arith)) ∙ sign_zero (g m) m)
 
 module _ (n : ℕ) (t t' b b' : List ℕ) (p : ℕ) (F : Flipped b b' p) (marks : (q : ℕ) → q < n → bit b q ≡ sign (stamp n t q)) (h : p < n)
     (others : (q : ℕ) → q < n → (q ≡ p → ⊥) → stamp n t' q ≡ stamp n t q) where
@@ -27,7 +28,7 @@ module _ (n : ℕ) (t t' b b' : List ℕ) (p : ℕ) (F : Flipped b b' p) (marks 
   pub marked : 1 - sign (stamp n t p) ≡ sign (stamp n t' p) → (q : ℕ) → q < n → bit b' q ≡ sign (stamp n t' q)
   marked e q l = ⊎_elim
       (λ d. ap (bit b') d ∙ F.here ∙ ap (λ (x : ℕ). 1 - x) (marks p h) ∙ e ∙ ap (λ (x : ℕ). sign (stamp n t' x)) (sym d))
-      (λ d. F.others q d ∙ marks q l ∙ ap sign (sym (others q l d))) (same? q p)
+      (λ d. F.others q d ∙ marks q l ∙ ap sign (sym (others q l d))) (cases_eq q p)
 
 pub bore : (n : ℕ) (m m' : List ℕ) (p : ℕ) → Packed n m → length m' ≡ length m → Born n (front n m) (front n m') p → Flipped (back n m) (back n m') p → Low (stamp n (front n m)) n p → Bore n m m' p
 bore n m m' p P l B F L = record {
@@ -60,13 +61,3 @@ fresh n m l S z = record {
   number = S.number;
   lives = S.lives;
 }
-
--- the parts of the whole check
-pub packed_of : (n : ℕ) (m b : List ℕ) → b ≡ back n m → length m ≡ cells n + words n → Table n (front n m) → Spare n b → Agree n (front n m) b → Packed n m
-packed_of n m b e l T S A = record { size = l; table = T; marks = λ p h. ap (λ (x : List ℕ). bit x p) (sym e) ∙ A.marks p h; spare = λ p h. ap (λ (x : List ℕ). bit x p) (sym e) ∙ S.spare p h }
-
-pub agree_of : (n : ℕ) (m b : List ℕ) → b ≡ back n m → Packed n m → Agree n (front n m) b
-agree_of n m b e P = record { marks = λ p h. ap (λ (x : List ℕ). bit x p) e ∙ P.marks p h }
-
-pub spare_of : (n : ℕ) (m b : List ℕ) → b ≡ back n m → Packed n m → Spare n b
-spare_of n m b e P = record { spare = λ p h. ap (λ (x : List ℕ). bit x p) e ∙ P.spare p h }

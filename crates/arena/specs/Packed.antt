@@ -1,9 +1,8 @@
 -- An arena of n places in one slice: the birth table's 2 + n + n cells, and then its occupancy map, two cells to 64 places.
 -- Assumes nothing: these are definitions.
-use Rattle.std.specs.Prelude.{◌≡◌, List, [], ◌∷◌, ◌++◌, ℕ, ◌+◌, ◌*◌, ◌/◌, ◌≤◌, ◌<◌, length, take, drop}
+use Rattle.std.specs.Prelude.{◌≡◌, List, [], ◌∷◌, ◌++◌, ℕ, ◌+◌, ◌*◌, ◌/◌, ◌≤◌, ◌<◌, length, take, drop, Some}
 use Rattle.std.proofs.Math.Decide.{ℕ_discrete}
 use Rattle.bits.specs.Map.{bit, lowest}
-use Rattle.bits.specs.declared.Found.TheVariants.{At}
 use Rattle.table.specs.Table.{Table, next, stamp, sign, live, without}
 use Rattle.seqs.specs.Seqs.{In}
 use Rattle.seqs.specs.Entries.{places}
@@ -36,7 +35,7 @@ Alive n m p = In ℕ_discrete p (places (live n (front n m)))
 -- a birth: the lowest free place p gets the next number, which is then one higher
 pub record Bore (n : ℕ) (m m' : List ℕ) (p : ℕ) : Type 0 where
   pub packed : Packed n m'
-  pub place : lowest (stamp n (front n m)) n ≡ At p
+  pub place : lowest (stamp n (front n m)) n ≡ Some p
   pub number : next (front n m') ≡ next (front n m) + 1
   pub lives : live n (front n m') ≡ live n (front n m) ++ ((next (front n m), p) ∷ [])
 

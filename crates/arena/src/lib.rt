@@ -2,6 +2,8 @@
 // live count, live places by rising number, stamps), and then the occupancy map. A thing is born at the lowest free place, gets the
 // next birth number, which no other thing ever has, and is found by it. Ported from `Arena` and the counters of
 // context.rs of pliron 0.20.0 (Apache-2.0).
+// Kept (point 5): m and n stay two parameters, since a struct of the two would be made anew from the lent buffer at each call.
+// Kept (point 6): the table and the map stay in one slice, since all memory is one lent buffer of a fixed size.
 #![tactic(auto)]
 
 ghost use Rattle.std.specs.Prelude.{◌≡◌, ◌+◌, ◌-◌, ◌*◌, ◌≤◌, ◌<◌, length, get_or};
@@ -10,10 +12,8 @@ ghost use Rattle.bits.specs.Map.{lowest};
 ghost use Rattle.table.specs.Table.{Table, Says, next, count, stamp, live, find_in};
 ghost use Rattle.seqs.specs.Entries.{lookup, places};
 
-use bits::Found;
-
 // The place of the live thing with this number; nothing where it has ended or was never born.
-pub fn find(m: &[u32], n: usize, number: u32) -> Found
+pub fn find(m: &[u32], n: usize, number: u32) -> Option<usize>
     requires { Packed n m.now }
     ensures { result ≡ find_in (live n (front n m.now)) number }
 {
@@ -22,7 +22,7 @@ pub fn find(m: &[u32], n: usize, number: u32) -> Found
 }
 
 // The lowest free place.
-fn free_place(m: &[u32], n: usize) -> Found
+fn free_place(m: &[u32], n: usize) -> Option<usize>
     requires { Packed n m.now }
     ensures { result ≡ lowest (stamp n (front n m.now)) n }
 {
@@ -35,10 +35,7 @@ pub fn birth(m: &mut [u32], n: usize) -> usize
     requires { Packed n m.old × ((count (front n m.old) < n) × (next (front n m.old) < 4294967295)) }
     ensures { Bore n m.old m.new result }
 {
-    let f = free_place(m, n);
-    let Found::At(place) = f else {
-        return 0;
-    };
+    let place = free_place(m, n).unwrap();
     let a = 2 + n + n;
     table::birth_at(&mut m[..a], n, place);
     bits::flip(&mut m[a..], place);
@@ -70,15 +67,10 @@ fn check_marks(t: &[u32], b: &[u32], n: usize) -> bool
     requires { Table n t.now × (n ≤ 32 * length b.now) }
     ensures { Says result (Agree n t.now b.now) }
 {
-    let mut p = 0;
-    while p < n {
-        let s = table::stamp_at(t, n, p);
-        let k = bits::mark(b, p);
-        let g = table::sign_of(s);
-        if k != g {
+    for p in 0..n {
+        if bits::mark(b, p) != (table::stamp_at(t, n, p) != 0) {
             return false;
         }
-        p += 1;
     }
     true
 }
@@ -88,13 +80,10 @@ fn check_spare(b: &[u32], n: usize) -> bool
     requires { (length b.now ≤ 1048576) × (n ≤ 32 * length b.now) }
     ensures { Says result (Spare n b.now) }
 {
-    let mut p = n;
-    while p < 32 * b.len() {
-        let k = bits::mark(b, p);
-        if k != 0 {
+    for p in n..32 * b.len() {
+        if bits::mark(b, p) {
             return false;
         }
-        p += 1;
     }
     true
 }
@@ -107,18 +96,10 @@ pub fn check(m: &[u32], n: usize) -> bool
         return false;
     }
     let a = 2 + n + n;
-    if m.len() != a + (n + 63) / 64 * 2 {
-        return false;
-    }
-    let k = table::check_table(&m[..a], n);
-    if !k {
-        return false;
-    }
-    let e = check_spare(&m[a..], n);
-    if !e {
-        return false;
-    }
-    check_marks(&m[..a], &m[a..], n)
+    m.len() == a + (n + 63) / 64 * 2
+        && table::check_table(&m[..a], n)
+        && check_spare(&m[a..], n)
+        && check_marks(&m[..a], &m[a..], n)
 }
 
 // How many things live.
@@ -142,15 +123,8 @@ pub fn is_live(m: &[u32], n: usize, p: usize) -> bool
     requires { Packed n m.now }
     ensures { Says result (Alive n m.now p) }
 {
-    if n <= p {
-        return false;
-    }
     let a = 2 + n + n;
-    let s = table::stamp_at(&m[..a], n, p);
-    if s == 0 {
-        return false;
-    }
-    true
+    p < n && table::stamp_at(&m[..a], n, p) != 0
 }
 
 // The birth number of the thing at place `p`.
@@ -159,8 +133,7 @@ pub fn number_at(m: &[u32], n: usize, p: usize) -> usize
     ensures { result ≡ lookup (live n (front n m.now)) p }
 {
     let a = 2 + n + n;
-    let s = table::stamp_at(&m[..a], n, p);
-    s - 1
+    table::stamp_at(&m[..a], n, p) - 1
 }
 
 // The place of the `k`-th thing alive, by rising birth number.

@@ -2,254 +2,200 @@
 // damaged slices. Each step checks the slice that it is handed, and asks for nothing that the arena does not have.
 #![tactic(auto)]
 
+ghost use Rattle.std.specs.Prelude.{◌≡◌, length};
 ghost use Rattle.arena.specs.Packed.{Packed};
 
-use bits::Found;
+use std::{fmt, io};
 
-fn say(s: &[u8]) {
-    io::write_all(1, s);
-}
-
-fn number(n: usize) {
-    io::print_decimal(1, n as u64);
-}
-
-// What a birth answers: the place, or why there is none.
+// What a birth lacks.
 #[derive(Clone, Copy)]
-enum Answer {
-    At(usize),
-    Full,
-    Spent,
+enum Lack {
+    Place,
+    Number,
 }
 
-fn try_birth(m: &mut [u32], n: usize) -> Answer
+impl fmt::Display for Lack {
+    fn fmt<W: fmt::Write>(&self, f: &mut fmt::Formatter<W>) -> fmt::Result {
+        f.write_str(match self {
+            Lack::Place => "no place left",
+            Lack::Number => "no number left",
+        })
+    }
+}
+
+fn try_birth(m: &mut [u32], n: usize) -> Result<usize, Lack>
     requires { Packed n m.old }
     ensures { Packed n m.new }
 {
-    let l = arena::taken(m, n);
-    if n <= l {
-        return Answer::Full;
+    if n <= arena::taken(m, n) {
+        return Err(Lack::Place);
     }
-    let x = arena::upcoming(m, n);
-    if 4294967295 <= x {
-        return Answer::Spent;
+    if u32::MAX as usize <= arena::upcoming(m, n) {
+        return Err(Lack::Number);
     }
-    Answer::At(arena::birth(m, n))
+    Ok(arena::birth(m, n))
 }
 
 // One birth, and what it answers.
-fn birth(m: &mut [u32], n: usize) {
-    let ok = arena::check(m, n);
-    if !ok {
-        say(b"birth: refused\n");
-        return;
+fn birth(rt: &impl Print, m: &mut [u32], n: usize) -> io::Result<()> {
+    if !arena::check(m, n) {
+        return println!(rt; "birth: refused");
     }
-    let x = arena::upcoming(m, n);
-    let b = try_birth(m, n);
-    match b {
-        Answer::At(p) => {
-            say(b"birth: number ");
-            number(x);
-            say(b" at place ");
-            number(p);
-            say(b"\n");
-        }
-        Answer::Full => {
-            say(b"birth: no place left\n");
-        }
-        Answer::Spent => {
-            say(b"birth: no number left\n");
-        }
+    let number = arena::upcoming(m, n);
+    match try_birth(m, n) {
+        Ok(place) => println!(rt; "birth: number {number} at place {place}"),
+        Err(lack) => println!(rt; "birth: {lack}"),
     }
 }
 
 // As many births as there are places, and then how many things live.
-fn fill(m: &mut [u32], n: usize) {
-    let ok = arena::check(m, n);
-    if !ok {
-        say(b"fill: refused\n");
-        return;
+fn fill(rt: &impl Print, m: &mut [u32], n: usize) -> io::Result<()> {
+    if !arena::check(m, n) {
+        return println!(rt; "fill: refused");
     }
-    let mut i = 0;
-    while i < n {
-        try_birth(m, n);
-        i += 1;
+    for _ in 0..n {
+        if try_birth(m, n).is_err() {
+            break;
+        }
     }
-    say(b"fill: ");
-    number(arena::taken(m, n));
-    say(b" of ");
-    number(n);
-    say(b" places taken\n");
+    let taken = arena::taken(m, n);
+    println!(rt; "fill: {taken} of {n} places taken")
 }
 
 // The thing at place `p` ends.
-fn end(m: &mut [u32], n: usize, p: usize) {
-    let ok = arena::check(m, n);
-    if !ok {
-        say(b"end: refused\n");
-        return;
+fn end(rt: &impl Print, m: &mut [u32], n: usize, p: usize) -> io::Result<()> {
+    if !arena::check(m, n) {
+        return println!(rt; "end: refused");
     }
-    say(b"end: place ");
-    number(p);
-    let alive = arena::is_live(m, n, p);
-    if !alive {
-        say(b" is free\n");
-        return;
+    if !arena::is_live(m, n, p) {
+        return println!(rt; "end: place {p} is free");
     }
     arena::end(m, n, p);
-    say(b" freed\n");
+    println!(rt; "end: place {p} freed")
 }
 
 // Where the thing with the number `x` lives.
-fn find(m: &[u32], n: usize, x: u32) {
-    let ok = arena::check(m, n);
-    if !ok {
-        say(b"find: refused\n");
-        return;
+fn find(rt: &impl Print, m: &[u32], n: usize, x: u32) -> io::Result<()> {
+    if !arena::check(m, n) {
+        return println!(rt; "find: refused");
     }
-    say(b"find: number ");
-    number(x as usize);
-    let f = arena::find(m, n, x);
-    match f {
-        Found::At(p) => {
-            say(b" at place ");
-            number(p);
-            say(b"\n");
-        }
-        Found::Nothing => {
-            say(b" is not alive\n");
-        }
+    match arena::find(m, n, x) {
+        Some(p) => println!(rt; "find: number {x} at place {p}"),
+        None => println!(rt; "find: number {x} is not alive"),
     }
 }
 
 // The things alive, number@place, by rising number.
-fn list(m: &[u32], n: usize) {
-    let ok = arena::check(m, n);
-    if !ok {
-        say(b"live: refused\n");
-        return;
+fn list(rt: &impl Print, m: &[u32], n: usize) -> io::Result<()> {
+    if !arena::check(m, n) {
+        return println!(rt; "live: refused");
     }
-    say(b"live:");
-    let l = arena::taken(m, n);
-    let mut k = 0;
-    while k < l {
+    print!(rt; "live:")?;
+    for k in 0..arena::taken(m, n) {
         let p = arena::nth_live(m, n, k);
-        say(b" ");
-        number(arena::number_at(m, n, p));
-        say(b"@");
-        number(p);
-        k += 1;
+        let number = arena::number_at(m, n, p);
+        print!(rt; " {number}@{p}")?;
     }
-    say(b"\n");
+    println!(rt)
 }
 
 // What the check says of a slice.
-fn verdict(m: &[u32], n: usize, what: &[u8]) {
-    say(b"check: ");
-    say(what);
-    let ok = arena::check(m, n);
-    if ok {
-        say(b": an arena\n");
+fn verdict(rt: &impl Print, m: &[u32], n: usize, what: &str) -> io::Result<()> {
+    let verdict = if arena::check(m, n) {
+        "an arena"
     } else {
-        say(b": refused\n");
-    }
+        "refused"
+    };
+    println!(rt; "check: {what}: {verdict}")
 }
 
 // One place: born, full, ended, born again with another number.
-fn one_place() {
-    say(b"one place\n");
+fn one_place(rt: &impl Print) -> io::Result<()> {
+    println!(rt; "one place")?;
     let mut m = [0u32; 6];
     arena::start(&mut m, 1);
-    birth(&mut m, 1);
-    birth(&mut m, 1);
-    end(&mut m, 1, 0);
-    end(&mut m, 1, 0);
-    birth(&mut m, 1);
-    find(&m, 1, 0);
-    find(&m, 1, 1);
-    find(&m, 1, 2);
-    list(&m, 1);
+    birth(rt, &mut m, 1)?;
+    birth(rt, &mut m, 1)?;
+    end(rt, &mut m, 1, 0)?;
+    end(rt, &mut m, 1, 0)?;
+    birth(rt, &mut m, 1)?;
+    find(rt, &m, 1, 0)?;
+    find(rt, &m, 1, 1)?;
+    find(rt, &m, 1, 2)?;
+    list(rt, &m, 1)
 }
 
 // All places of the largest arena: freed ones are taken again, the lowest first, and in the last word too.
-fn all_places() {
-    say(b"16,384 places\n");
+fn all_places(rt: &impl Print) -> io::Result<()> {
+    println!(rt; "16,384 places")?;
     let mut m = [0u32; 33282];
     arena::start(&mut m, 16384);
-    fill(&mut m, 16384);
-    birth(&mut m, 16384);
-    end(&mut m, 16384, 16383);
-    end(&mut m, 16384, 64);
-    end(&mut m, 16384, 7);
-    end(&mut m, 16384, 16384);
-    find(&m, 16384, 64);
-    find(&m, 16384, 16382);
-    birth(&mut m, 16384);
-    birth(&mut m, 16384);
-    birth(&mut m, 16384);
-    birth(&mut m, 16384);
-    find(&m, 16384, 16384);
-    find(&m, 16384, 16386);
-    find(&m, 16384, 4294967295);
+    fill(rt, &mut m, 16384)?;
+    birth(rt, &mut m, 16384)?;
+    for p in [16383, 64, 7, 16384] {
+        end(rt, &mut m, 16384, p)?;
+    }
+    find(rt, &m, 16384, 64)?;
+    find(rt, &m, 16384, 16382)?;
+    for _ in 0..4 {
+        birth(rt, &mut m, 16384)?;
+    }
+    find(rt, &m, 16384, 16384)?;
+    find(rt, &m, 16384, 16386)?;
+    find(rt, &m, 16384, u32::MAX)
 }
 
 // The largest birth number, and none after it.
-fn last_number() {
-    say(b"the last number\n");
+fn last_number(rt: &impl Print) -> io::Result<()> {
+    println!(rt; "the last number")?;
     let mut m = [0u32; 10];
     arena::start(&mut m, 3);
-    birth(&mut m, 3);
-    put(&mut m, 0, 4294967294);
-    birth(&mut m, 3);
-    birth(&mut m, 3);
-    find(&m, 3, 4294967294);
-    end(&mut m, 3, 0);
-    birth(&mut m, 3);
-    list(&m, 3);
-}
-
-fn put(m: &mut [u32], i: usize, v: u32) {
-    if i < m.len() {
-        m[i] = v;
-    }
+    birth(rt, &mut m, 3)?;
+    m[0] = 4294967294;
+    birth(rt, &mut m, 3)?;
+    birth(rt, &mut m, 3)?;
+    find(rt, &m, 3, 4294967294)?;
+    end(rt, &mut m, 3, 0)?;
+    birth(rt, &mut m, 3)?;
+    list(rt, &m, 3)
 }
 
 // Slices that hold no arena.
-fn damaged() {
-    say(b"damaged slices\n");
+fn damaged(rt: &impl Print) -> io::Result<()> {
+    println!(rt; "damaged slices")?;
     let mut m = [0u32; 10];
     arena::start(&mut m, 3);
-    fill(&mut m, 3);
-    end(&mut m, 3, 1);
-    list(&m, 3);
-    verdict(&m, 3, b"as it is");
-    verdict(&m, 2, b"another capacity");
-    put(&mut m, 2, 2);
-    put(&mut m, 3, 0);
-    verdict(&m, 3, b"order torn");
-    put(&mut m, 2, 0);
-    put(&mut m, 3, 2);
-    put(&mut m, 4, 1);
-    verdict(&m, 3, b"order past its end");
-    put(&mut m, 4, 0);
-    put(&mut m, 8, 7);
-    verdict(&m, 3, b"bit of a free place");
-    put(&mut m, 8, 13);
-    verdict(&m, 3, b"bit past the places");
-    put(&mut m, 8, 5);
-    put(&mut m, 0, 2);
-    verdict(&m, 3, b"number above the next");
-    put(&mut m, 0, 3);
-    put(&mut m, 1, 3);
-    verdict(&m, 3, b"live count");
-    birth(&mut m, 3);
-    put(&mut m, 1, 2);
-    birth(&mut m, 3);
+    fill(rt, &mut m, 3)?;
+    end(rt, &mut m, 3, 1)?;
+    list(rt, &m, 3)?;
+    verdict(rt, &m, 3, "as it is")?;
+    verdict(rt, &m, 2, "another capacity")?;
+    m[2] = 2;
+    m[3] = 0;
+    verdict(rt, &m, 3, "order torn")?;
+    m[2] = 0;
+    m[3] = 2;
+    m[4] = 1;
+    verdict(rt, &m, 3, "order past its end")?;
+    m[4] = 0;
+    m[8] = 7;
+    verdict(rt, &m, 3, "bit of a free place")?;
+    m[8] = 13;
+    verdict(rt, &m, 3, "bit past the places")?;
+    m[8] = 5;
+    m[0] = 2;
+    verdict(rt, &m, 3, "number above the next")?;
+    m[0] = 3;
+    m[1] = 3;
+    verdict(rt, &m, 3, "live count")?;
+    birth(rt, &mut m, 3)?;
+    m[1] = 2;
+    birth(rt, &mut m, 3)
 }
 
-fn main() {
-    one_place();
-    all_places();
-    last_number();
-    damaged();
+fn main(rt: HostRuntime) -> io::Result<()> {
+    one_place(&rt)?;
+    all_places(&rt)?;
+    last_number(&rt)?;
+    damaged(&rt)
 }

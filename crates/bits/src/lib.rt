@@ -2,14 +2,8 @@
 // first, so that p is also bit p % 32 of the number p / 32. A set bit says that the place is taken.
 #![tactic(auto)]
 
-ghost use Rattle.std.specs.Prelude.{◌≡◌, ◌+◌, ◌*◌, ◌/◌, ◌%◌, ◌≤◌, ◌<◌, length, get_or};
-ghost use Rattle.bits.specs.Map.{bit, lowest, Ones, Common, Skipped, Flipped, Cleared};
-
-#[derive(Clone, Copy)]
-pub enum Found {
-    At(usize),
-    Nothing,
-}
+ghost use Rattle.std.specs.Prelude.{◌≡◌, ◌+◌, ◌*◌, ◌/◌, ◌%◌, ◌≤◌, ◌<◌, ◌↔◌, IsTrue, length, get_or};
+ghost use Rattle.bits.specs.Map.{bit, lowest, Ones, Full, Opens, Skipped, Flipped, Cleared};
 
 // Two cells, from `k` on, as one word of 64 bits.
 fn word(b: &[u32], k: usize) -> u64
@@ -28,12 +22,19 @@ fn ones(w: u64) -> u32
     u64::trailing_zeros(!w)
 }
 
-// The bits that four words, from the cell `k` on, have in common: all 64 only where each word is full.
-fn common(b: &[u32], k: usize) -> u64
-    requires { k + 7 < length b.now }
-    ensures { Common b.now k result }
+// Whether every place of these cells is marked. The cells' bits in common are taken first, so that there is one test for all.
+fn is_full(cells: &[u32]) -> bool
+    ensures { IsTrue result ↔ Full cells.now }
 {
-    word(b, k) & word(b, k + 2) & word(b, k + 4) & word(b, k + 6)
+    cells.iter().fold(u32::MAX, |common, cell| common & cell) == u32::MAX
+}
+
+// The first whole group of `SIZE` cells where a place is not marked.
+fn first_open<const SIZE: usize>(b: &[u32]) -> Option<usize>
+    requires { 0 < SIZE }
+    ensures { Opens SIZE b.now result }
+{
+    b.chunks_exact(SIZE).position(|cells| !is_full(cells))
 }
 
 // A cell below which every place is marked: full words are passed eight at a time, and the rest is left to the search by words.
@@ -41,36 +42,21 @@ fn skip_full(b: &[u32]) -> usize
     requires { length b.now ≤ 1048576 }
     ensures { Skipped b.now result }
 {
-    let mut k = 0;
-    while k + 15 < b.len() {
-        let x = common(b, k) & common(b, k + 8);
-        if x != 18446744073709551615 {
-            return k;
-        }
-        k += 16;
+    match first_open::<16>(b) {
+        Some(i) => 16 * i,
+        None => b.len() - b.len() % 16,
     }
-    k
 }
 
 // The lowest place below `n` that is not marked, a word at a time.
-pub fn lowest_free(b: &[u32], n: usize) -> Found
+pub fn lowest_free(b: &[u32], n: usize) -> Option<usize>
     requires { (length b.now % 2 ≡ 0) × ((n ≤ 32 * length b.now) × (length b.now ≤ 1048576)) }
     ensures { result ≡ lowest (bit b.now) n }
 {
-    let mut k = skip_full(b);
-    while k < b.len() {
-        let w = word(b, k);
-        if w != 18446744073709551615 {
-            let j = ones(w);
-            let p = 32 * k + (j as usize);
-            if p < n {
-                return Found::At(p);
-            }
-            return Found::Nothing;
-        }
-        k += 2;
-    }
-    Found::Nothing
+    let from = skip_full(b);
+    let k = from + 2 * first_open::<2>(&b[from..])?;
+    let p = 32 * k + ones(word(b, k)) as usize;
+    if p < n { Some(p) } else { None }
 }
 
 // Marks place `p`, or takes the mark away.
@@ -78,31 +64,20 @@ pub fn flip(b: &mut [u32], p: usize)
     requires { p < 32 * length b.old }
     ensures { Flipped b.old b.new p }
 {
-    let i = p / 32;
-    let k = p % 32;
-    let w = b[i];
-    let m: u32 = 1;
-    b[i] = w ^ (m << k);
+    b[p / 32] ^= 1 << (p % 32);
 }
 
-// The mark of place `p`: 0 or 1.
-pub fn mark(b: &[u32], p: usize) -> usize
+// Whether place `p` is marked.
+pub fn mark(b: &[u32], p: usize) -> bool
     requires { p < 32 * length b.now }
-    ensures { result ≡ bit b.now p }
+    ensures { IsTrue result ↔ (bit b.now p ≡ 1) }
 {
-    let i = p / 32;
-    let k = p % 32;
-    let w = b[i];
-    ((w >> k) % 2) as usize
+    (b[p / 32] >> (p % 32)) % 2 == 1
 }
 
 // No place is marked.
 pub fn clear(b: &mut [u32])
     ensures { Cleared b.old b.new }
 {
-    let mut i = 0;
-    while i < b.len() {
-        b[i] = 0;
-        i += 1;
-    }
+    b.fill(0);
 }

@@ -2,6 +2,8 @@
 use mathlib.Core.Path.{◌≡◌, refl, sym, ap, ◌∙◌}
 use mathlib.Core.Logic.{◌⊎◌, inl, inr, ⊎_elim, ite, if_pos, if_neg, by_cases}
 use mathlib.Core.List.{List}
+use Rattle.std.specs.Prelude.{Option, Some, None, Ok, Err}
+use Rattle.std.specs.Option.{ok_or}
 use Prim.Native.Nat.{ℕ, ◌+◌, ◌*◌, ◌≤◌, ◌<◌}
 use native.Mathlib.Decide.{dec_le, dec_lt}
 use native.Mathlib.Omega.{arith}
@@ -16,7 +18,7 @@ use Rattle.context.specs.declared.Layout.{Layout}
 use Rattle.context.specs.Layout.{cap_of, total, arena, Caps}
 use Rattle.context.specs.Steps.{Started}
 use Rattle.context.specs.Performed.{abs}
-use Rattle.context.specs.Start.{five_of, within, start_code, StartIs}
+use Rattle.context.specs.Start.{five_of, within, start_code, StartBy, WordsNeeded}
 
 -- ---- the reply
 
@@ -57,12 +59,48 @@ empty_means : (l : Layout) → meaning (empty (cap_of l)) ≡ start (five_of l)
 unfolding meaning rule_state hist orders_of view rec_of empty start begin no_orders zeros
 empty_means l = refl
 
-pub start_refused : (l : Layout) (m : List ℕ) → (Caps l → total l ≤ length m → ⊥) → StartIs l m m 5
-start_refused l m n = record { reply = sym (code_no l (length m) n); started = λ e. absurd (omega arith); state = λ e. absurd (omega arith); kept = λ e. refl }
+pub start_refused : (l : Layout) (m : List ℕ) (r : ℕ) → (Caps l → total l ≤ length m → ⊥) → r ≡ 5 → StartBy l m m r
+start_refused l m r n e = record { reply = e ∙ sym (code_no l (length m) n); started = λ z. absurd (omega (arith, e, z)); state = λ z. absurd (omega (arith, e, z)); kept = λ z. refl }
 
-pub start_done : (l : Layout) (m m' : List ℕ) → Caps l → total l ≤ length m → Started l m m' → StartIs l m m' 0
+pub start_done : (l : Layout) (m m' : List ℕ) → Caps l → total l ≤ length m → Started l m m' → StartBy l m m' 0
 unfolding abs
 start_done l m m' C f S = record { reply = sym (code_yes l (length m) C f); started = λ e. S; state = λ e. ap meaning S.state ∙ empty_means l; kept = λ n. absurd (n refl) }
+
+-- ---- what the words needed say of the capacities
+
+pub no_store : {l : Layout} {r : Option ℕ} → WordsNeeded l r → r ≡ None → Caps l → ⊥
+no_store N e C = let q = N.is C in let z : ◌≡◌ {A = ℕ} 0 1 = cc in absurd (omega arith)
+
+pub a_store : {l : Layout} {r : Option ℕ} {n : ℕ} → WordsNeeded l r → r ≡ Some n → Caps l × (n ≡ total l)
+a_store {l} {r} {n} N e =
+    let C : Caps l =
+    record {
+      ops = by (dec_le l.ops 4096) (λ C. C.ops);
+      blocks = by (dec_le l.blocks 1024) (λ C. C.blocks);
+      regions = by (dec_le l.regions 1024) (λ C. C.regions);
+      values = by (dec_le l.values 8192) (λ C. C.values);
+      uses = by (dec_le l.uses 16384) (λ C. C.uses);
+      some_ops = by (dec_lt 0 l.ops) (λ C. C.some_ops);
+      some_blocks = by (dec_lt 0 l.blocks) (λ C. C.some_blocks);
+      some_regions = by (dec_lt 0 l.regions) (λ C. C.some_regions);
+      some_values = by (dec_lt 0 l.values) (λ C. C.some_values);
+      some_uses = by (dec_lt 0 l.uses) (λ C. C.some_uses);
+    } in
+    let q = N.is C in
+    (C, cc)
+  where
+    -- a limit that is not kept leaves no store
+    by : {P : Type 0} → Dec P → (Caps l → P) → P
+    by d f = by_cases d (λ y. y) (λ no. let q = N.none (λ C. no (f C)) in let z : ◌≡◌ {A = ℕ} 0 1 = cc in absurd (omega arith))
+
+-- an option that a refusal stands for
+pub was_some : {A E : Type 0} {r : Option A} (e : E) {n : A} → ok_or r e ≡ Ok n → r ≡ Some n
+was_some {r = None} e h = let z : ◌≡◌ {A = ℕ} 0 1 = cc in absurd (omega arith)
+was_some {r = Some x} e h = cc
+
+pub was_none : {A E : Type 0} {r : Option A} (e : E) {x : E} → ok_or r e ≡ Err x → (r ≡ None) × (x ≡ e)
+was_none {r = None} e h = (refl, cc)
+was_none {r = Some x} e h = let z : ◌≡◌ {A = ℕ} 0 1 = cc in absurd (omega arith)
 
 -- ---- how many words
 

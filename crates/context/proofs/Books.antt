@@ -8,19 +8,21 @@ use native.Mathlib.Numerals.{add-one}
 use native.Mathlib.Omega.{arith}
 use lib.ListN.{length, get_or, take, drop}
 use Rattle.seqs.specs.Split.{split, splice}
-use Rattle.bits.specs.declared.Found.{Found}
-use Rattle.bits.specs.declared.Found.TheVariants.{At, Nothing}
+use Rattle.std.specs.Prelude.{Option, Some, None, Ok, Err}
 use Rattle.bits.proofs.Lowest.{Low, low_at}
 use Rattle.table.specs.Table.{next, stamp, live, entry, find_in, count as lives}
 use Rattle.arena.specs.Packed.{Packed, Alive, Bore, Gone, front}
 use Rattle.seqs.specs.Seqs.{upd, count}
+use Rattle.seqs.specs.Entries.{lookup, places}
 use Rattle.places.specs.Store.{Kind, op, blk, reg, val, usg, Fam, Kind-dec, Thing, Thing-dec, alive, Live, birth, end}
-use Rattle.places.specs.Parts.{Book, Parts, places, lookup, born_book, gone_book, book_birth, book_end, store}
+use Rattle.places.specs.Parts.{Book, Parts, born_book, gone_book, book_birth, book_end, store}
 use Rattle.seqs.proofs.Base.{upd_at, upd_same, upd_other, upd_self}
 use Rattle.places.proofs.Steps.{alive_born, alive_birth, alive_end}
 use Rattle.places.proofs.Rows.{book_birth_lem, book_end_lem}
+use Rattle.edit.specs.declared.Refusal.TheVariants.{NoPlace, NoNumber}
+use Rattle.edit.specs.Kinds.{code_of}
 use Rattle.context.specs.declared.Layout.{Layout}
-use Rattle.context.specs.declared.Span.{Span}
+use Rattle.context.specs.declared.Table.{Table}
 use Rattle.context.specs.Layout.{cap_of, nc_of, nn_of, sizes, arena, kind_part, fam_part, RoomOf}
 use Rattle.context.specs.Memory.{part, book_in, rows_in, homes_in, parts_of, rows_for, state_of, Well, Borne, Finished, Finds, RoomFor, RoomIs}
 use Rattle.context.specs.Reading.{NumberIs, LiveIs, NextNumberIs, NthLiveIs}
@@ -79,10 +81,7 @@ size_is l reg = refl
 size_is l val = refl
 size_is l usg = refl
 
-module _ (l : Layout) (m : List ℕ) (k : Kind) (r : Span) (W : Well l m) (T : RoomOf l k r) where
-  abbrev e : ℕ
-  e = r.at + r.nn
-
+module _ {l : Layout} {m : List ℕ} {k : Kind} {r : Table} (W : Well l m) (T : RoomOf l k r) where
   abbrev n : ℕ
   n = cap_of l k
 
@@ -90,98 +89,98 @@ module _ (l : Layout) (m : List ℕ) (k : Kind) (r : Span) (W : Well l m) (T : R
   s = part l m (kind_part k)
 
   abbrev given : List ℕ
-  given = take (e - r.at) (drop r.at m)
+  given = take (r.end - r.at) (drop r.at m)
 
-  ends : e ≡ r.at + get_or (sizes l) (kind_part k) 0
-  ends = omega (arith, size_is l k, T.size, ap arena T.capacity)
+  ends : r.end ≡ r.at + get_or (sizes l) (kind_part k) 0
+  ends = omega (arith, size_is l k, T.ends, ap arena T.capacity)
 
   pub seen : given ≡ s
-  seen = lent l (kind_part k) r.at e m (omega (arith, kind_part< k)) T.starts ends
+  seen = lent l (kind_part k) r.at r.end m (omega (arith, kind_part< k)) T.starts ends
 
-  pub packed : Packed r.nc given
+  pub packed : Packed r.places given
   packed = rw (seen, T.capacity) (W.tables k)
 
   -- the store's words for what the table asks
-  pub room_asked : RoomFor (state_of l m) k (cap_of l k) → Packed r.nc given × ((lives (front r.nc given) < r.nc) × (next (front r.nc given) < 4294967295))
+  pub room_asked : RoomFor (state_of l m) k (cap_of l k) → Packed r.places given × ((lives (front r.places given) < r.places) × (next (front r.places given) < 4294967295))
   unfolding store parts_of
   room_asked h = (packed, (rw (seen, T.capacity) (omega (arith, h.place, length_live (entry n (front n s)) (lives (front n s)))), rw (seen, T.capacity) h.number))
 
-  pub live_asked : (p : ℕ) → Live (state_of l m) (k, p) → Packed r.nc given × ((p < r.nc) × (0 < stamp r.nc (front r.nc given) p))
+  pub live_asked : (p : ℕ) → Live (state_of l m) (k, p) → Packed r.places given × ((p < r.places) × (0 < stamp r.places (front r.places given) p))
   unfolding alive store parts_of
   live_asked p h =
       let w : (p < n) × (0 < stamp n (front n s) p) = live_stamp (W.tables k).table p h in
       (packed, (rw T.capacity w.0, rw (seen, T.capacity) w.1))
 
-  pub alive_asked : (p : ℕ) → Live (state_of l m) (k, p) → Packed r.nc given × Alive r.nc given p
+  pub alive_asked : (p : ℕ) → Live (state_of l m) (k, p) → Packed r.places given × Alive r.places given p
   unfolding alive store parts_of
   alive_asked p h = (packed, rw (seen, T.capacity) h)
 
-  pub finds : (x : ℕ) (a : Found) → a ≡ find_in (live r.nc (front r.nc given)) x → Finds (state_of l m) k x a
+  pub finds : (x : ℕ) (a : Option ℕ) → a ≡ find_in (live r.places (front r.places given)) x → Finds (state_of l m) k x a
   unfolding alive store parts_of
-  finds x (At p) h = found_at (W.tables k).table x p (sym (rw (seen, T.capacity) at h))
-  finds x Nothing h = λ p g. found_none (W.tables k).table x p (sym (rw (seen, T.capacity) at h)) g
+  finds x (Some p) h = found_at (W.tables k).table x p (sym (rw (seen, T.capacity) at h))
+  finds x None h = λ p g. found_none (W.tables k).table x p (sym (rw (seen, T.capacity) at h)) g
 
-  pub lives_are : (x : ℕ) → x ≡ lives (front r.nc given) → x ≡ length ((state_of l m).tab k).order
+  pub lives_are : {x : ℕ} → x ≡ lives (front r.places given) → x ≡ length ((state_of l m).tab k).order
   unfolding store parts_of
-  lives_are x h = rw (seen, T.capacity) at h ∙ sym (length_live (entry n (front n s)) (lives (front n s)))
+  lives_are h = rw (seen, T.capacity) at h ∙ sym (length_live (entry n (front n s)) (lives (front n s)))
 
-  pub next_is : (x : ℕ) → x ≡ next (front r.nc given) → x ≡ ((state_of l m).tab k).next
+  pub next_is : {x : ℕ} → x ≡ next (front r.places given) → x ≡ ((state_of l m).tab k).next
   unfolding store parts_of
-  next_is x h = rw (seen, T.capacity) at h
+  next_is h = rw (seen, T.capacity) at h
 
-  pub number_is : (p x : ℕ) → x ≡ lookup (live r.nc (front r.nc given)) p → NumberIs l k p m x
+  pub number_is : {p x : ℕ} → x ≡ lookup (live r.places (front r.places given)) p → NumberIs l k p m x
   unfolding store parts_of
-  number_is p x g = record { is = rw (seen, T.capacity) at g }
+  number_is g = record { is = rw (seen, T.capacity) at g }
 
-  pub number_small : (p x : ℕ) → Live (state_of l m) (k, p) → x ≡ lookup (live r.nc (front r.nc given)) p → x ≤ 4294967295
+  pub number_small : (p : ℕ) {x : ℕ} → Live (state_of l m) (k, p) → x ≡ lookup (live r.places (front r.places given)) p → x ≤ 4294967295
   unfolding alive store parts_of
-  number_small p x h g =
+  number_small p {x} h g =
       let e : x ≡ lookup (live n (front n s)) p = rw (seen, T.capacity) at g in
       let W' = (W.tables k).table in
       omega (arith, e, live_number W' p h, W'.below p (live_stamp W' p h).0, W'.fresh)
 
-  pub live_is : (x : ℕ) → x ≡ lives (front r.nc given) → LiveIs l k m x
-  live_is x h =
+  pub live_is : {x : ℕ} → x ≡ lives (front r.places given) → LiveIs l k m x
+  live_is {x} h =
       let e : x ≡ lives (front n s) = rw (seen, T.capacity) at h in
-      record { is = lives_are x h; small = omega (arith, e, (W.tables k).table.few) }
+      record { is = lives_are h; small = omega (arith, e, (W.tables k).table.few) }
 
-  pub next_number_is : (x : ℕ) → x ≡ next (front r.nc given) → NextNumberIs l k m x
-  next_number_is x h = record { is = next_is x h }
+  pub next_number_is : {x : ℕ} → x ≡ next (front r.places given) → NextNumberIs l k m x
+  next_number_is h = record { is = next_is h }
 
-  pub next_small : (x : ℕ) → x ≡ next (front r.nc given) → x ≤ 4294967295
-  next_small x h =
+  pub next_small : {x : ℕ} → x ≡ next (front r.places given) → x ≤ 4294967295
+  next_small {x} h =
       let e : x ≡ next (front n s) = rw (seen, T.capacity) at h in
       omega (arith, e, (W.tables k).table.fresh)
 
-  pub nth_asked : (i : ℕ) → i < length ((state_of l m).tab k).order → Packed r.nc given × (i < lives (front r.nc given))
+  pub nth_asked : {i : ℕ} → i < length ((state_of l m).tab k).order → Packed r.places given × (i < lives (front r.places given))
   unfolding store parts_of
-  nth_asked i h = (packed, rw (seen, T.capacity) (omega (arith, h, length_live (entry n (front n s)) (lives (front n s)))))
+  nth_asked h = (packed, rw (seen, T.capacity) (omega (arith, h, length_live (entry n (front n s)) (lives (front n s)))))
 
-  pub nth_live_is : (i x : ℕ) → i < length ((state_of l m).tab k).order → x ≡ get_or (places (live r.nc (front r.nc given))) i 0 → NthLiveIs l k i m x
+  pub nth_live_is : {i x : ℕ} → i < length ((state_of l m).tab k).order → x ≡ get_or (places (live r.places (front r.places given))) i 0 → NthLiveIs l k i m x
   unfolding alive store parts_of
-  nth_live_is i x h g =
+  nth_live_is {i} {x} h g =
       let e : x ≡ get_or (places (live n (front n s))) i 0 = rw (seen, T.capacity) at g in
       let i< : i < lives (front n s) = omega (arith, h, length_live (entry n (front n s)) (lives (front n s))) in
       let z : 0 < count ℕ_discrete x (places (live n (front n s))) = rw e (nth_live (W.tables k).table i i<) in
       record { is = e; live = z; inside = (live_stamp (W.tables k).table x z).0 }
 
-  pub full : (x : ℕ) → x ≡ lives (front r.nc given) → (x < cap_of l k → ⊥) → RoomIs l k m 20
-  full x h n = record { is = sym (if_neg (dec_lt (length ((state_of l m).tab k).order) (cap_of l k)) (λ y. n (omega (arith, y, lives_are x h))) _ 20); some = λ e. absurd (omega (arith, e)) }
+  pub full : {x : ℕ} → x ≡ lives (front r.places given) → (x < cap_of l k → ⊥) → RoomIs l k m (Err NoPlace)
+  full h n = record { is = sym (if_neg (dec_lt (length ((state_of l m).tab k).order) (cap_of l k)) (λ y. n (omega (arith, y, lives_are h))) _ 20); some = λ e. absurd (omega (arith, ap code_of e)) }
 
-  module _ (x y : ℕ) (hx : x ≡ lives (front r.nc given)) (hy : y ≡ next (front r.nc given)) (room : x < cap_of l k) where
+  module _ {x y : ℕ} (hx : x ≡ lives (front r.places given)) (hy : y ≡ next (front r.places given)) (room : x < cap_of l k) where
     a : length ((state_of l m).tab k).order < cap_of l k
-    a = omega (arith, lives_are x hx, room)
+    a = omega (arith, lives_are hx, room)
 
-    pub ran_out : (y < 4294967295 → ⊥) → RoomIs l k m 21
+    pub ran_out : (y < 4294967295 → ⊥) → RoomIs l k m (Err NoNumber)
     ran_out n =
         record {
-          is = sym (if_pos (dec_lt (length ((state_of l m).tab k).order) (cap_of l k)) a _ 20 ∙ if_neg (dec_lt ((state_of l m).tab k).next 4294967295) (λ g. n (omega (arith, g, next_is y hy))) 0 21);
-          some = λ e. absurd (omega (arith, e));
+          is = sym (if_pos (dec_lt (length ((state_of l m).tab k).order) (cap_of l k)) a _ 20 ∙ if_neg (dec_lt ((state_of l m).tab k).next 4294967295) (λ g. n (omega (arith, g, next_is hy))) 0 21);
+          some = λ e. absurd (omega (arith, ap code_of e));
         }
 
-    pub roomy : y < 4294967295 → RoomIs l k m 0
+    pub roomy : y < 4294967295 → RoomIs l k m (Ok tt)
     roomy h =
-        let b : ((state_of l m).tab k).next < 4294967295 = omega (arith, next_is y hy, h) in
+        let b : ((state_of l m).tab k).next < 4294967295 = omega (arith, next_is hy, h) in
         record {
           is = sym (if_pos (dec_lt (length ((state_of l m).tab k).order) (cap_of l k)) a _ 20 ∙ if_pos (dec_lt ((state_of l m).tab k).next 4294967295) b 0 21);
           some = λ e. record { place = a; number = b };
@@ -189,12 +188,12 @@ module _ (l : Layout) (m : List ℕ) (k : Kind) (r : Span) (W : Well l m) (T : R
 
   module _ (s' : List ℕ) (kept : length s' ≡ length given) where
     abbrev m' : List ℕ
-    m' = splice r.at (e - r.at) s' m
+    m' = splice r.at (r.end - r.at) s' m
 
     S : Swapped l (kind_part k) s' m m'
-    S = swap l (kind_part k) r.at e s' m (omega (arith, kind_part< k)) T.starts ends (omega (arith, T.fits, W.fits)) kept
+    S = swap l (kind_part k) r.at r.end s' m (omega (arith, kind_part< k)) T.starts ends (omega (arith, T.fits, W.fits)) kept
 
-    module _ (p : ℕ) (B₀ : Bore r.nc given s' p) where
+    module _ {p : ℕ} (B₀ : Bore r.places given s' p) where
       B : Bore n s s' p
       B = rw (seen, T.capacity) at B₀
 
@@ -236,7 +235,7 @@ module _ (l : Layout) (m : List ℕ) (k : Kind) (r : Span) (W : Well l m) (T : R
             state = state_born;
           }
 
-    module _ (p : ℕ) (bare : (state_of l m).tag (k, p) ≡ 0) (G₀ : Gone r.nc given s' p) where
+    module _ {p : ℕ} (bare : (state_of l m).tag (k, p) ≡ 0) (G₀ : Gone r.places given s' p) where
       G : Gone n s s' p
       G = rw (seen, T.capacity) at G₀
 
@@ -258,5 +257,5 @@ module _ (l : Layout) (m : List ℕ) (k : Kind) (r : Span) (W : Well l m) (T : R
       pub finished : Finished l k p m m'
       finished = record { well = well_table k W S G.packed spare_gone; rest = elsewhere S 14 (omega (arith, kind_part< k)); state = state_gone }
 
-pub borne_live : {l : Layout} {m m₁ : List ℕ} (k : Kind) (p : ℕ) → Borne l k m m₁ p → Live (state_of l m₁) (k, p)
-borne_live {l} {m} k p B = rw B.state (omega (arith, alive_born (state_of l m) (k, p) 0))
+pub borne_live : {l : Layout} {m m₁ : List ℕ} {k : Kind} {p : ℕ} → Borne l k m m₁ p → Live (state_of l m₁) (k, p)
+borne_live {l} {m} {m₁} {k} {p} B = rw B.state (omega (arith, alive_born (state_of l m) (k, p) 0))

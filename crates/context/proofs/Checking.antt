@@ -2,18 +2,20 @@
 use mathlib.Core.Path.{◌≡◌, sym, ap, ◌∙◌}
 use mathlib.Core.Bool.{Bool}
 use mathlib.Core.List.{List, [], ◌∷◌}
-use Prim.Native.Nat.{ℕ, ◌+◌, ◌-◌, ◌*◌, ◌≤◌, ◌<◌}
+use Prim.Native.Nat.{ℕ, ◌-◌, ◌≤◌, ◌<◌}
 use native.Mathlib.Omega.{arith}
 use lib.Seq.{get_or-take}
 use lib.ListN.{length, get_or, take, drop}
 use Rattle.seqs.specs.Split.{split}
 use Rattle.linked_list.specs.Links.{Linked}
 use Rattle.seqs.specs.Seqs.{Says}
+use Rattle.seqs.proofs.Says.{says_map}
 use Rattle.arena.specs.Packed.{Packed}
 use Rattle.places.specs.Store.{Kind, op, blk, reg, val, usg, Fam, slots, use_sets, vals, regs, ops_in, blocks_in}
 use Rattle.context.specs.declared.Layout.{Layout}
 use Rattle.context.specs.declared.Span.{Span}
-use Rattle.context.specs.Layout.{total, arena, kind_part, fam_part, kind_of, fam_of, SpanOf, RoomOf, Caps}
+use Rattle.context.specs.declared.Table.{Table}
+use Rattle.context.specs.Layout.{total, arena, kind_part, fam_part, SpanOf, RoomOf, Caps}
 use Rattle.context.specs.Memory.{part, layout_of, Well}
 use Rattle.context.specs.Checked.{Headed, TableOk, FamilyOk, TablesOk, FamiliesOk, SpareOk}
 use Rattle.context.proofs.Sparing.{spare_of}
@@ -38,24 +40,30 @@ headed {l} {m} H = λ i. record { ops = at 0 (omega arith) i; blocks = at 1 (ome
     at : (j : ℕ) → j < 5 → get_or (l.ops ∷ l.blocks ∷ l.regions ∷ l.values ∷ l.uses ∷ []) j 0 ≡ get_or m j 0
     at j h = ap (λ (t : List ℕ). get_or t j 0) (sym H.head) ∙ get_or-take 5 m j 0 h
 
-pub table_says : (l : Layout) (m : List ℕ) (k : Kind) (r : Span) → RoomOf l k r → (b : Bool) → Says b (Packed r.nc (take (r.at + r.nn - r.at) (drop r.at m))) → Says b (TableOk l m k)
-table_says l m k r T b h =
-    let e : take (r.at + r.nn - r.at) (drop r.at m) ≡ part l m (kind_part k) =
-    lent l (kind_part k) r.at (r.at + r.nn) m (omega (arith, kind_part< k)) T.starts (omega (arith, books.size_is l k, T.size, ap arena T.capacity)) in
+pub table_says : {l : Layout} {k : Kind} {r : Table} (m : List ℕ) → RoomOf l k r → (b : Bool) → Says b (Packed r.places (take (r.end - r.at) (drop r.at m))) → Says b (TableOk l m k)
+table_says {l} {k} {r} m T b h =
+    let e : take (r.end - r.at) (drop r.at m) ≡ part l m (kind_part k) =
+    lent l (kind_part k) r.at r.end m (omega (arith, kind_part< k)) T.starts (omega (arith, books.size_is l k, T.ends, ap arena T.capacity)) in
     rw (e, T.capacity) at h
 
-pub family_says : (l : Layout) (m : List ℕ) (f : Fam) (r : Span) → SpanOf l f r → (b : Bool) → Says b (Linked r.nc r.nn (take (r.at + 2 * r.nc + 3 * r.nn - r.at) (drop r.at m))) → Says b (FamilyOk l m f)
-family_says l m f r T b h =
-    let e : take (r.at + 2 * r.nc + 3 * r.nn - r.at) (drop r.at m) ≡ part l m (fam_part f) =
-    lent l (fam_part f) r.at (r.at + 2 * r.nc + 3 * r.nn) m (omega (arith, fam_part< f)) T.starts (omega (arith, thin.size_is l f, T.containers, T.nodes)) in
+pub family_says : {l : Layout} {f : Fam} {r : Span} (m : List ℕ) → SpanOf l f r → (b : Bool) → Says b (Linked r.lists.nc r.lists.nn (take (r.end - r.at) (drop r.at m))) → Says b (FamilyOk l m f)
+family_says {l} {f} {r} m T b h =
+    let e : take (r.end - r.at) (drop r.at m) ≡ part l m (fam_part f) =
+    lent l (fam_part f) r.at r.end m (omega (arith, fam_part< f)) T.starts (omega (arith, thin.size_is l f, T.ends, T.containers, T.nodes)) in
     rw (e, T.containers, T.nodes) at h
 
--- every kind and family has a code
-pub all_kinds : (l : Layout) (m : List ℕ) → ((j : ℕ) → j < 5 → TableOk l m (kind_of j)) → TablesOk l m
-all_kinds l m h = record { all = λ k. elim k as (λ j. TableOk l m j) [ op ↦ h 0 (omega arith) | blk ↦ h 1 (omega arith) | reg ↦ h 2 (omega arith) | val ↦ h 3 (omega arith) | usg ↦ h 4 (omega arith) ] }
+-- the kinds and the families, one by one
+pub tables_say : (l : Layout) (m : List ℕ) (b : Bool) → Says b (TableOk l m op × TableOk l m blk × TableOk l m reg × TableOk l m val × TableOk l m usg) → Says b (TablesOk l m)
+tables_say l m b =
+    says_map b (λ (o, c, r, v, u). record { all = λ k. elim k as (λ j. TableOk l m j) [ op ↦ o | blk ↦ c | reg ↦ r | val ↦ v | usg ↦ u ] })
+    (λ T. (T.all op, T.all blk, T.all reg, T.all val, T.all usg))
 
-pub all_families : (l : Layout) (m : List ℕ) → ((j : ℕ) → j < 6 → FamilyOk l m (fam_of j)) → FamiliesOk l m
-all_families l m h = record { all = λ f. elim f as (λ g. FamilyOk l m g) [ slots ↦ h 0 (omega arith) | use_sets ↦ h 1 (omega arith) | vals ↦ h 2 (omega arith) | regs ↦ h 3 (omega arith) | ops_in ↦ h 4 (omega arith) | blocks_in ↦ h 5 (omega arith) ] }
+pub families_say : (l : Layout) (m : List ℕ) (b : Bool) → Says b (FamilyOk l m slots × FamilyOk l m use_sets × FamilyOk l m vals × FamilyOk l m regs × FamilyOk l m ops_in × FamilyOk l m blocks_in) → Says b (FamiliesOk l m)
+families_say l m b =
+    says_map b (λ (s, u, v, r, o, c). record { all = λ f. elim f as (λ g. FamilyOk l m g) [ slots ↦ s | use_sets ↦ u | vals ↦ v | regs ↦ r | ops_in ↦ o | blocks_in ↦ c ] })
+    (λ F. (F.all slots, F.all use_sets, F.all vals, F.all regs, F.all ops_in, F.all blocks_in))
 
-pub well_of : (l : Layout) (m : List ℕ) → Headed l m → Caps l → total l ≤ length m → TablesOk l m → FamiliesOk l m → SpareOk l m op → SpareOk l m val → Well l m
-well_of l m H C F T G A B = record { caps = C; fits = F; head = H.head; tables = T.all; families = G.all; spare = spare_of l m A B }
+pub well_says : (l : Layout) (m : List ℕ) → Headed l m → (b : Bool) → Says b (Caps l × (total l ≤ length m) × TablesOk l m × FamiliesOk l m × SpareOk l m op × SpareOk l m val) → Says b (Well l m)
+well_says l m H b =
+    says_map b (λ (C, F, T, G, A, B). record { caps = C; fits = F; head = H.head; tables = T.all; families = G.all; spare = spare_of l m A B })
+    (λ W. (W.caps, W.fits, record { all = W.tables }, record { all = W.families }, record { all = λ p. W.spare (op, p) }, record { all = λ p. W.spare (val, p) }))

@@ -2,20 +2,24 @@
 use mathlib.Core.Path.{◌≡◌, refl, sym, ap, ◌∙◌}
 use mathlib.Core.Logic.{◌≢◌}
 use mathlib.Core.List.{List, [], ◌∷◌}
-use mathlib.Core.Option.{Option, none, some}
-use Prim.Native.Nat.{ℕ, zero, suc}
+use mathlib.Core.Option as math
+use mathlib.Core.Option.{none, some}
+use mathlib.Core.Bool.{true, false}
+use Rattle.std.specs.Prelude.{Option, Some, None, is_some}
+use Prim.Native.Nat.{ℕ}
 use native.Mathlib.Omega.{arith}
 use Rattle.places.specs.Store.{op, blk, reg, usg, Fam, fam, node_of, Thing, Con, State, Live, Link, end, leave}
-use Rattle.places.specs.Parts.{node_in, con_of}
+use Rattle.places.specs.Parts.{node_in}
 use Rattle.places.specs.Walk.{cut_all}
 use Rattle.places.proofs.Steps.{alive_leave, some_none}
 use Rattle.places.proofs.Prims.{end_in, end_free, end_sound}
 use Rattle.context.specs.declared.Layout.{Layout}
-use Rattle.context.specs.Memory.{part, decode, con, state_of, Well, SoundStore, Left, Stands, Freed, Tagged, Finished, HomeIs}
+use Rattle.context.specs.Memory.{part, con, state_of, Well, SoundStore, Left, Stands, Freed, Tagged, Finished, HomeIs}
 use Rattle.context.specs.Steps.{CanEnd, Ended}
 use Rattle.context.proofs.Families.{con_back}
 use Rattle.context.proofs.Neighbours.{kind_of_lem}
 use Rattle.context.proofs.Tags.{end_tag}
+use Rattle.context.proofs.Users.{around_none, around_some}
 
 pub op_not_use : op ≢ usg
 op_not_use e = let z : ◌≡◌ {A = ℕ} 0 1 = cc in omega arith
@@ -28,14 +32,19 @@ region_not_use e = let z : ◌≡◌ {A = ℕ} 0 1 = cc in omega arith
 
 -- ---- out of the list, if it is in one
 
-pub home_stands : {l : Layout} {f : Fam} {n : ℕ} {m : List ℕ} (r : ℕ) → HomeIs l f n m r → r ≢ 0 → Stands (state_of l m) (node_in f, n) f
-home_stands zero H z = absurd (z refl)
-home_stands {l} {f} (suc k) H z = record { list = con l f k; there = H.own }
+pub home_stands : {l : Layout} {f : Fam} {n : ℕ} {m : List ℕ} {r : Option ℕ} → HomeIs l f n m r → is_some r ≡ true → Stands (state_of l m) (node_in f, n) f
+home_stands {l} {f} {n} {m} {r} H z = go r refl
+  where
+    go : (o : Option ℕ) → r ≡ o → Stands (state_of l m) (node_in f, n) f
+    go None e = let z : ◌≡◌ {A = ℕ} 0 1 = cc in absurd (omega arith)
+    go (Some k) e = record { list = con l f k; there = around_some H e }
 
-pub freed_none : {l : Layout} {f : Fam} {n : ℕ} {m : List ℕ} (r : ℕ) → Well l m → HomeIs l f n m r → r ≡ 0 → Freed l f n m m
-freed_none {l} {f} {n} {m} r W H z =
-    let o : (state_of l m).own (node_in f, n) f ≡ none = H.own ∙ ap (λ (k : ℕ). con_of (con l f) (decode k)) z in
-    record { well = W; rest = refl; alone = λ e. refl; left = λ c e. absurd (some_none e o) }
+pub freed_none : {l : Layout} {f : Fam} {n : ℕ} {m : List ℕ} {r : Option ℕ} → Well l m → HomeIs l f n m r → is_some r ≡ false → Freed l f n m m
+freed_none {l} {f} {n} {m} {r} W H z = go r refl
+  where
+    go : (o : Option ℕ) → r ≡ o → Freed l f n m m
+    go None e = record { well = W; rest = refl; alone = λ e. refl; left = λ c q. absurd (some_none q (around_none H e)) }
+    go (Some k) e = let z : ◌≡◌ {A = ℕ} 0 1 = cc in absurd (omega arith)
 
 pub freed_some : {l : Layout} {f : Fam} {n : ℕ} {m m' : List ℕ} → Stands (state_of l m) (node_in f, n) f → Left l f n m m' → Freed l f n m m'
 freed_some Z L = record { well = L.well; rest = L.rest; alone = λ e. absurd (some_none Z.there e); left = L.state }
@@ -58,7 +67,7 @@ module _ {l : Layout} {m : List ℕ} (f : Fam) (n : ℕ) (solo : node_in f ≢ u
     either : goal
     either = go (P.own x f) refl
       where
-        go : (o : Option Con) → P.own x f ≡ o → goal
+        go : (o : math.Option Con) → P.own x f ≡ o → goal
         go none e = no (D.alone e) e
         go (some c) e = yes' c e (D.left c e)
 

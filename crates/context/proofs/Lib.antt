@@ -1,4 +1,3 @@
-pub mod Codes
 pub mod Pieces
 pub mod Families
 pub mod Thin

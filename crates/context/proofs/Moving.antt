@@ -2,22 +2,26 @@
 use mathlib.Core.Path.{◌≡◌, refl, sym, ap, ◌∙◌}
 use mathlib.Core.Logic.{◌≢◌, ⊎_elim}
 use mathlib.Core.List.{List, [], ◌∷◌, ◌++◌}
-use mathlib.Core.Option.{Option, none, some}
-use Prim.Native.Nat.{ℕ, zero, suc, ◌+◌, ◌-◌, ◌<◌}
+use mathlib.Core.Option as math
+use mathlib.Core.Option.{none, some}
+use Rattle.std.specs.Prelude.{Option, Some}
+use Rattle.std.specs.Option.{IsSome}
+use Prim.Native.Nat.{ℕ, ◌+◌, ◌<◌}
 use native.Mathlib.Omega.{arith}
 use lib.ListN.{length}
 use Rattle.seqs.specs.Seqs.{tick, count, In, without, seq_insert_at, seq_last_of, seq_front_of, seq_swap_out}
 use Rattle.seqs.proofs.Base.{tick_yes, tick_no, count_append}
 use Rattle.places.specs.Store.{op, reg, Fam, regs, regions, Thing, Thing-dec, Con, State, Live, Link, enter, leave, relink}
-use Rattle.places.specs.Parts.{con_of, rows_of}
-use Rattle.places.proofs.Steps.{thing_eq, some_inj, some_none, once, listed, own_left, own_leave_other, own_enter_other, list_left, list_entered, owners}
+use Rattle.places.specs.Parts.{rows_of}
+use Rattle.places.proofs.Steps.{thing_eq, some_inj, once, listed, own_left, own_leave_other, own_enter_other, list_left, list_entered, owners}
 use Rattle.places.proofs.MoveRegion.{move_region_sound}
 use Rattle.context.specs.declared.Layout.{Layout}
 use Rattle.context.specs.Layout.{nc_of, nn_of}
-use Rattle.context.specs.Memory.{decode, con, state_of, SoundStore, Left, Entered, Stands, HomeIs}
-use Rattle.context.specs.Reading.{last_code, LastIs, EnteredBy}
+use Rattle.context.specs.Memory.{state_of, SoundStore, Left, Entered, Stands, HomeIs}
+use Rattle.context.specs.Reading.{last_place, LastIs, EnteredBy}
 use Rattle.context.specs.Steps.{SwappedOut, CanMoveRegion, MovedRegion}
 use Rattle.context.proofs.Places.{place<}
+use Rattle.context.proofs.Users.{around_some}
 use Rattle.context.proofs.Families.{stands}
 use Rattle.context.proofs.Neighbours.{parted}
 use Rattle.context.proofs.Gaps.{insert_mid, snoc_is, swap_last, gap_out, gap_swap, there_and_back}
@@ -26,9 +30,9 @@ last_of_mid : (y x : Thing) (a b : List Thing) → seq_last_of y (a ++ x ∷ b) 
 last_of_mid y x [] b = refl
 last_of_mid y x (w ∷ a) b = last_of_mid w x a b
 
-last_mid : (x : Thing) (a b : List Thing) → last_code (a ++ x ∷ b) ≡ suc (seq_last_of x b).1
+last_mid : (x : Thing) (a b : List Thing) → last_place (a ++ x ∷ b) ≡ Some (seq_last_of x b).1
 last_mid x [] b = refl
-last_mid x (y ∷ a) b = ap (λ (w : Thing). suc w.1) (last_of_mid y x a b)
+last_mid x (y ∷ a) b = ap (λ (w : Thing). Some w.1) (last_of_mid y x a b)
 
 in_last : (y : Thing) (l : List Thing) → In Thing-dec (seq_last_of y l) (y ∷ l)
 in_last y [] = omega (arith, tick_yes (Thing-dec y y) refl)
@@ -45,39 +49,28 @@ module _ {l : Layout} {m : List ℕ} (r : ℕ) (S : SoundStore l m) (live : Live
   abbrev x : Thing
   x = (reg, r)
 
-  module _ (h : ℕ) (H : HomeIs l regs r m h) where
-    pub home_some : 0 < h
-    home_some = go h refl
-      where
-        go : (j : ℕ) → h ≡ j → 0 < h
-        go zero e = absurd (some_none (S.sound.placed x live).1 (H.own ∙ ap (λ (j : ℕ). con_of (con l regs) (decode j)) e))
-        go (suc j) e = omega (arith, e)
+  pub own_at : {q : Option ℕ} {h : ℕ} → HomeIs l regs r m q → q ≡ Some h → P.own x regs ≡ some (regions, (op, h))
+  unfolding rows_of
+  own_at H e = around_some H e
 
-    pub own_at : P.own x regs ≡ some (regions, (op, h - 1))
-    unfolding rows_of
-    own_at = H.own ∙ go h home_some
-      where
-        go : (j : ℕ) → 0 < j → con_of (con l regs) (decode j) ≡ some (regions, (op, j - 1))
-        go zero k = absurd (omega arith)
-        go (suc j) k = ap (λ (i : ℕ). some (regions, (op, i))) (omega arith)
-
+  module _ {h : ℕ} (own : P.own x regs ≡ some (regions, (op, h))) where
     pub stand : Stands P x regs
-    stand = record { list = (regions, (op, h - 1)); there = own_at }
+    stand = record { list = (regions, (op, h)); there = own }
 
-    K : Link P x regs (regions, (op, h - 1))
-    K = S.sound.linked.link x regs (regions, (op, h - 1)) own_at
+    K : Link P x regs (regions, (op, h))
+    K = S.sound.linked.link x regs (regions, (op, h)) own
 
-    pub row< : h - 1 < nc_of l regs
-    row< = place< S (op, h - 1) K.home
+    pub row< : h < nc_of l regs
+    row< = place< S (op, h) K.home
 
     abbrev c : Con
-    c = (regions, (op, h - 1))
+    c = (regions, (op, h))
 
     abbrev L : List Thing
-    L = P.list (op, h - 1) regions
+    L = P.list (op, h) regions
 
-    apart : (a : List Thing) × (b : List Thing) × (L ≡ a ++ x ∷ b)
-    apart = parted S.well regs r (regions, (op, h - 1)) own_at
+    pub apart : (a : List Thing) × (b : List Thing) × (L ≡ a ++ x ∷ b)
+    apart = parted S.well regs r (regions, (op, h)) own
 
     abbrev a : List Thing
     a = apart.0
@@ -86,7 +79,7 @@ module _ {l : Layout} {m : List ℕ} (r : ℕ) (S : SoundStore l m) (live : Live
     b = apart.1
 
     one : count Thing-dec x L ≡ 1
-    one = once S.sound.linked x regs c own_at
+    one = once S.sound.linked x regs c own
 
     -- how often x stands before x and after it
     none_round : (count Thing-dec x a ≡ 0) × (count Thing-dec x b ≡ 0)
@@ -94,24 +87,24 @@ module _ {l : Layout} {m : List ℕ} (r : ℕ) (S : SoundStore l m) (live : Live
         let e : count Thing-dec x L ≡ count Thing-dec x a + count Thing-dec x (x ∷ b) = ap (count Thing-dec x) apart.2 ∙ count_append Thing-dec x a (x ∷ b) in
         (omega (arith, one, e, tick_yes (Thing-dec x x) refl), omega (arith, one, e, tick_yes (Thing-dec x x) refl))
 
-    module _ (z : ℕ) (Z : LastIs l regs (h - 1) m z) where
-      last_is : z ≡ last_code L
-      unfolding rows_of
-      last_is = Z.is
+    last_is : {q : Option ℕ} → LastIs l regs h m q → q ≡ Some (seq_last_of x b).1
+    unfolding rows_of
+    last_is Z = Z.is ∙ ap last_place apart.2 ∙ last_mid x a b
 
-      code : z ≡ suc (seq_last_of x b).1
-      code = last_is ∙ ap last_code apart.2 ∙ last_mid x a b
+    pub last_some : {q : Option ℕ} → LastIs l regs h m q → IsSome q
+    last_some Z = rw (last_is Z) refl
 
-      pub last_some : 0 < z
-      last_some = omega (arith, code)
+    pub last_at : {q : Option ℕ} {z : ℕ} → LastIs l regs h m q → q ≡ Some z → z ≡ (seq_last_of x b).1
+    last_at Z e = let s = last_is Z in cc
 
+    module _ {z : ℕ} (code : z ≡ (seq_last_of x b).1) where
       -- the things of the list are regions
       kind_in : (w : Thing) → In Thing-dec w L → w.0 ≡ reg
-      kind_in w i = (S.sound.linked.link w regs c (listed S.sound.linked w (op, h - 1) regions i)).node
+      kind_in w i = (S.sound.linked.link w regs c (listed S.sound.linked w (op, h) regions i)).node
 
       -- x is the last: the list ends with it
-      module _ (e : z ≡ r + 1) where
-        ends : (b' : List Thing) → L ≡ a ++ x ∷ b' → z ≡ suc (seq_last_of x b').1 → count Thing-dec x b' ≡ 0 → L ≡ a ++ x ∷ []
+      module _ (e : z ≡ r) where
+        ends : (b' : List Thing) → L ≡ a ++ x ∷ b' → z ≡ (seq_last_of x b').1 → count Thing-dec x b' ≡ 0 → L ≡ a ++ x ∷ []
         ends [] q k n = q
         ends (y ∷ b') q k n =
             let i : In Thing-dec (seq_last_of y b') (y ∷ b') = in_last y b' in
@@ -127,7 +120,7 @@ module _ {l : Layout} {m : List ℕ} (r : ℕ) (S : SoundStore l m) (live : Live
               well = E.well;
               rest = E.rest;
               state = λ g o.
-                  let s : ◌≡◌ {A = Con} (regions, (op, g)) c = some_inj (sym o ∙ own_at) in
+                  let s : ◌≡◌ {A = Con} (regions, (op, g)) c = some_inj (sym o ∙ own) in
                   E.state (regions, (op, g)) o
                   ∙ ap (λ (d : Con). relink d (without Thing-dec x (P.list d.1 d.0)) x none P) s
                   ∙ ap (λ (t : List Thing). relink c t x none P) (ap (without Thing-dec x) q ∙ sym (swap_last Thing-dec x a none_round.0) ∙ ap (seq_swap_out Thing-dec x) (sym q))
@@ -135,11 +128,11 @@ module _ {l : Layout} {m : List ℕ} (r : ℕ) (S : SoundStore l m) (live : Live
             }
 
       -- another is the last: it takes the gap
-      module _ (n : z ≢ r + 1) where
+      module _ (n : z ≢ r) where
         abbrev w : Thing
-        w = (reg, z - 1)
+        w = (reg, z)
 
-        ends_with : (b' : List Thing) → L ≡ a ++ x ∷ b' → z ≡ suc (seq_last_of x b').1 → (b₁ : List Thing) × (L ≡ a ++ x ∷ (b₁ ++ w ∷ []))
+        ends_with : (b' : List Thing) → L ≡ a ++ x ∷ b' → z ≡ (seq_last_of x b').1 → (b₁ : List Thing) × (L ≡ a ++ x ∷ (b₁ ++ w ∷ []))
         ends_with [] q k = absurd (n (omega (arith, k)))
         ends_with (y ∷ b') q k =
             let i : In Thing-dec (seq_last_of y b') (y ∷ b') = in_last y b' in
@@ -154,7 +147,7 @@ module _ {l : Layout} {m : List ℕ} (r : ℕ) (S : SoundStore l m) (live : Live
         b₁ = split.0
 
         w≢x : w ≢ x
-        w≢x e = n (omega (arith, ap (λ (t : Thing). t.1) e, last_some))
+        w≢x e = n (omega (arith, ap (λ (t : Thing). t.1) e))
 
         counts : (t : Thing) → count Thing-dec t L ≡ count Thing-dec t a + (tick (Thing-dec t x) + (count Thing-dec t b₁ + (tick (Thing-dec t w) + 0)))
         counts t = ap (count Thing-dec t) split.1 ∙ count_append Thing-dec t a (x ∷ (b₁ ++ w ∷ [])) ∙ ap (λ (j : ℕ). count Thing-dec t a + (tick (Thing-dec t x) + j)) (count_append Thing-dec t b₁ (w ∷ []))
@@ -163,7 +156,7 @@ module _ {l : Layout} {m : List ℕ} (r : ℕ) (S : SoundStore l m) (live : Live
         w_in = omega (arith, counts w, tick_yes (Thing-dec w w) refl)
 
         own_w : P.own w regs ≡ some c
-        own_w = listed S.sound.linked w (op, h - 1) regions w_in
+        own_w = listed S.sound.linked w (op, h) regions w_in
 
         one_w : count Thing-dec w L ≡ 1
         one_w = once S.sound.linked w regs c own_w
@@ -189,15 +182,15 @@ module _ {l : Layout} {m : List ℕ} (r : ℕ) (S : SoundStore l m) (live : Live
         pub stand_w : Stands P w regs
         stand_w = record { list = c; there = own_w }
 
-        pub room_w : z - 1 < nn_of l regs
+        pub room_w : z < nn_of l regs
         room_w = place< S w (S.sound.linked.link w regs c own_w).live
 
-        module _ {m₁ : List ℕ} (L₁ : Left l regs (z - 1) m m₁) where
+        module _ {m₁ : List ℕ} (L₁ : Left l regs z m m₁) where
           out : state_of l m₁ ≡ leave c w P
           out = L₁.state c own_w
 
           own₁ : (state_of l m₁).own x regs ≡ some c
-          own₁ = rw out (ap (λ (f : Fam → Option Con). f regs) (own_leave_other P c w x (λ e. w≢x (sym e))) ∙ own_at)
+          own₁ = rw out (ap (λ (f : Fam → math.Option Con). f regs) (own_leave_other P c w x (λ e. w≢x (sym e))) ∙ own)
 
           pub stand₁ : Stands (state_of l m₁) x regs
           stand₁ = record { list = c; there = own₁ }
@@ -205,20 +198,20 @@ module _ {l : Layout} {m : List ℕ} (r : ℕ) (S : SoundStore l m) (live : Live
           pub free₁ : (state_of l m₁).own w regs ≡ none
           free₁ = rw out (own_left P c w)
 
-          list₁ : (leave c w P).list (op, h - 1) regions ≡ a ++ x ∷ b₁
+          list₁ : (leave c w P).list (op, h) regions ≡ a ++ x ∷ b₁
           list₁ = list_left P c w ∙ ap (without Thing-dec w) split.1 ∙ gap_out Thing-dec x w a b₁ xa xb wa wb w≢x xz wf
 
-          module _ {m₂ : List ℕ} (E : EnteredBy l regs r (z - 1) 0 m₁ m₂) where
+          module _ {m₂ : List ℕ} (E : EnteredBy l regs r z 0 m₁ m₂) where
             put : state_of l m₂ ≡ enter c (length a + 0) w (leave c w P)
-            put = E.state c own₁ a b₁ (ap (λ (Q : State). Q.list (op, h - 1) regions) out ∙ list₁) ∙ ap (enter c (length a + 0) w) out
+            put = E.state c own₁ a b₁ (ap (λ (Q : State). Q.list (op, h) regions) out ∙ list₁) ∙ ap (enter c (length a + 0) w) out
 
             own₂ : (state_of l m₂).own x regs ≡ some c
-            own₂ = rw put (ap (λ (f : Fam → Option Con). f regs) (own_enter_other (leave c w P) c w (length a + 0) x (λ e. w≢x (sym e)) ∙ own_leave_other P c w x (λ e. w≢x (sym e))) ∙ own_at)
+            own₂ = rw put (ap (λ (f : Fam → math.Option Con). f regs) (own_enter_other (leave c w P) c w (length a + 0) x (λ e. w≢x (sym e)) ∙ own_leave_other P c w x (λ e. w≢x (sym e))) ∙ own)
 
             pub stand₂ : Stands (state_of l m₂) x regs
             stand₂ = record { list = c; there = own₂ }
 
-            list₂ : (enter c (length a + 0) w (leave c w P)).list (op, h - 1) regions ≡ a ++ w ∷ x ∷ b₁
+            list₂ : (enter c (length a + 0) w (leave c w P)).list (op, h) regions ≡ a ++ w ∷ x ∷ b₁
             list₂ =
                 list_entered (leave c w P) c w (length a + 0)
                 ∙ ap (seq_insert_at (length a + 0) w) list₁
@@ -228,7 +221,7 @@ module _ {l : Layout} {m : List ℕ} (r : ℕ) (S : SoundStore l m) (live : Live
             swapped : leave c x (enter c (length a + 0) w (leave c w P)) ≡ relink c (seq_swap_out Thing-dec x L) x none P
             unfolding leave enter
             swapped =
-                there_and_back P c x w _ _ (without Thing-dec x ((enter c (length a + 0) w (leave c w P)).list (op, h - 1) regions)) own_w
+                there_and_back P c x w _ _ (without Thing-dec x ((enter c (length a + 0) w (leave c w P)).list (op, h) regions)) own_w
                 ∙ ap (λ (t : List Thing). relink c t x none P) (ap (without Thing-dec x) list₂ ∙ gap_swap Thing-dec x w a b₁ xa xb wa wb w≢x xz wf ∙ ap (seq_swap_out Thing-dec x) (sym split.1))
 
             pub swapped_gap : {m₃ : List ℕ} → Left l regs r m₂ m₃ → SwappedOut l r m m₃
@@ -237,7 +230,7 @@ module _ {l : Layout} {m : List ℕ} (r : ℕ) (S : SoundStore l m) (live : Live
                   well = L₃.well;
                   rest = L₃.rest ∙ E.rest ∙ L₁.rest;
                   state = λ g o.
-                      let s : ◌≡◌ {A = Con} (regions, (op, g)) c = some_inj (sym o ∙ own_at) in
+                      let s : ◌≡◌ {A = Con} (regions, (op, g)) c = some_inj (sym o ∙ own) in
                       L₃.state c own₂ ∙ ap (leave c x) put ∙ swapped ∙ ap (λ (d : Con). relink d (seq_swap_out Thing-dec x (P.list d.1 d.0)) x none P) (sym s);
                 }
 

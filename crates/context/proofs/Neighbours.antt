@@ -3,25 +3,26 @@ use mathlib.Core.Path.{◌≡◌, refl, sym, ap, ◌∙◌}
 use mathlib.Core.Logic.{◌⊎◌, inl, inr}
 use mathlib.Core.List.{List, [], ◌∷◌, ◌++◌, map}
 use mathlib.Core.Option.{some}
+use Rattle.std.specs.Prelude.{Option, Some, slice_get}
 use Prim.Native.Nat.{ℕ, zero, suc, ◌+◌, ◌-◌, ◌*◌, ◌<◌}
 use native.Mathlib.Omega.{arith}
 use lib.ListN.{length, get_or, take, drop}
 use Rattle.seqs.specs.Split.{split}
 use Rattle.seqs.specs.Seqs.{seq_last_of}
-use Rattle.linked_list.specs.Links.{at, place, home, lists, Linked, Free, Held, Sizes, row_of, next_in, last_in}
+use Rattle.linked_list.specs.Links.{decoded, at, home, lists, Linked, Free, Held, row_of, next_in, last_in}
 use Rattle.linked_list.proofs.Laws.{at_inj, at_lt}
 use Rattle.linked_list.proofs.View.{Seat, seat}
-use Rattle.linked_list.proofs.Getters.{cells, at_get_d}
+use Rattle.linked_list.proofs.Getters.{cells, decoded_at, at_get_d}
 use Rattle.places.specs.Store.{Kind, Fam, Thing, Con, node_of}
 use Rattle.places.specs.Parts.{node_in, con_of}
 use Rattle.places.proofs.Rows.{node_in_lem}
 use Rattle.context.specs.declared.Layout.{Layout}
 use Rattle.context.specs.declared.Span.{Span}
 use Rattle.context.specs.Layout.{nc_of, nn_of, sizes, fam_part, SpanOf}
-use Rattle.context.specs.Memory.{part, decode, parts_of, con, state_of, head_code, Well}
-use Rattle.context.specs.Reading.{list_of, last_code, NextIs, LastIs, NthIs}
+use Rattle.context.specs.Memory.{part, decode, parts_of, con, state_of, first_place, Well}
+use Rattle.context.specs.Reading.{list_of, last_place, NextIs, LastIs, NthIs}
 use Rattle.context.proofs.Families.{node<, con_back, list_at, own_is, stands, free}
-use Rattle.context.proofs.Thin.{length_map, seen, sized, linked}
+use Rattle.context.proofs.Thin.{length_map, seen}
 
 -- ---- a list of things, as the places in it
 
@@ -36,18 +37,18 @@ at_mid : (a b : List Thing) (x : Thing) → at (seconds (a ++ x ∷ b)) (length 
 at_mid [] b x = refl
 at_mid (y ∷ a) b x = at_mid a b x
 
-at_next : (a b : List Thing) (x : Thing) → at (seconds (a ++ x ∷ b)) (suc (length a)) ≡ head_code b
-at_next [] [] x = refl
-at_next [] (y ∷ b) x = refl
-at_next (y ∷ a) b x = at_next a b x
+slot_next : (a b : List Thing) (x : Thing) → slice_get (seconds (a ++ x ∷ b)) (suc (length a)) ≡ first_place b
+slot_next [] [] x = refl
+slot_next [] (y ∷ b) x = refl
+slot_next (y ∷ a) b x = slot_next a b x
 
-last_at : (y : Thing) (a : List Thing) → at (seconds (y ∷ a)) (length a) ≡ suc (seq_last_of y a).1
+last_at : (y : Thing) (a : List Thing) → slice_get (seconds (y ∷ a)) (length a) ≡ Some (seq_last_of y a).1
 last_at y [] = refl
 last_at y (z ∷ a) = last_at z a
 
-tail_code : (l : List Thing) → place (seconds l) (length (seconds l)) ≡ last_code l
-tail_code [] = refl
-tail_code (y ∷ l) = ap (at (seconds (y ∷ l))) (longs l) ∙ last_at y l
+last_seconds : (l : List Thing) → last_in (seconds l) ≡ last_place l
+last_seconds [] = refl
+last_seconds (y ∷ l) = ap (slice_get (seconds (y ∷ l))) (longs l) ∙ last_at y l
   where
     longs : (l : List Thing) → length (seconds l) ≡ length l
     longs [] = refl
@@ -118,41 +119,38 @@ module _ {l : Layout} {m : List ℕ} (W : Well l m) (f : Fam) where
       pub index_is : seated.3.index ≡ length a
       index_is = at_inj ((W.families f).row seated.0 seated.3.c<) seated.3.index (length a) (omega (arith, seated.3.index<)) (omega (arith, at_lt row (length a) n there)) (seated.3.there ∙ sym there)
 
-      pub next_code : at row (suc seated.3.index) ≡ head_code b
-      next_code = ap (λ (i : ℕ). at row (suc i)) index_is ∙ ap (λ (t : List ℕ). at t (suc (length a))) places ∙ at_next a b (node_in f, n)
+      pub next_place : slice_get row (suc seated.3.index) ≡ first_place b
+      next_place = ap (λ (i : ℕ). slice_get row (suc i)) index_is ∙ ap (λ (t : List ℕ). slice_get t (suc (length a))) places ∙ slot_next a b (node_in f, n)
 
 -- ---- what the readers say
 
-module _ (l : Layout) (m : List ℕ) (f : Fam) (r : Span) (W : Well l m) (T : SpanOf l f r) where
+module _ {l : Layout} {m : List ℕ} {f : Fam} {r : Span} (W : Well l m) (T : SpanOf l f r) where
   abbrev given : List ℕ
-  given = take (r.at + 2 * r.nc + 3 * r.nn - r.at) (drop r.at m)
+  given = take (r.end - r.at) (drop r.at m)
 
-  pub node_asked : (n : ℕ) → n < nn_of l f → Sizes r.nc r.nn × (Linked r.nc r.nn given × (n < r.nn))
-  node_asked n h = (sized l m f r W T, (linked l m f r W T, omega (arith, T.nodes)))
+  pub nth_asked : (k : ℕ) {i : ℕ} → i < length (list_of l m (con l f k)) → i < length (get_or (lists r.lists.nc r.lists.nn given) k [])
+  nth_asked k g =
+      rw (seen W T, T.containers, T.nodes) (omega (arith, g, ap length (list_row W f k), length_map {B = Thing} (λ (j : ℕ). (node_in f, j)) (get_or (lists (nc_of l f) (nn_of l f) (part l m (fam_part f))) k [])))
 
-  pub nth_asked : (k i : ℕ) → k < nc_of l f → i < length (list_of l m (con l f k)) → Sizes r.nc r.nn × (Linked r.nc r.nn given × ((k < r.nc) × (i < length (get_or (lists r.nc r.nn given) k []))))
-  nth_asked k i h g =
-      (sized l m f r W T, (linked l m f r W T, (omega (arith, T.containers), rw (seen l m f r W T, T.containers, T.nodes) (omega (arith, g, ap length (list_row W f k), length_map {B = Thing} (λ (j : ℕ). (node_in f, j)) (get_or (lists (nc_of l f) (nn_of l f) (part l m (fam_part f))) k []))))))
-
-  module _ (n : ℕ) (h : n < nn_of l f) where
-    pub next_is : (x y : ℕ) → x ≡ y → y ≡ next_in n (row_of n (lists r.nc r.nn given)) → NextIs l f n m x
-    next_is x y h₀ g =
-        let e : x ≡ get_or (part l m (fam_part f)) (2 * nc_of l f + n) 0 = h₀ ∙ rw (seen l m f r W T, T.containers, T.nodes) at g ∙ sym (cells (W.families f) n h).next in
+  module _ {n : ℕ} (h : n < nn_of l f) where
+    pub next_is : {x : Option ℕ} → x ≡ next_in n (row_of n (lists r.lists.nc r.lists.nn given)) → NextIs l f n m x
+    next_is {x} g =
+        let e : x ≡ decoded (get_or (part l m (fam_part f)) (2 * nc_of l f + n) 0) = rw (seen W T, T.containers, T.nodes) at g ∙ sym (cells (W.families f) n h).next in
         record {
-          none = λ o. e ∙ (lone (W.families f) n h (free l m f n o)).next0;
-          after = λ c o a b w. e ∙ (seated W f n c o).3.next_is ∙ next_code W f n c o a b w;
+          none = λ o. e ∙ ap decoded (lone (W.families f) n h (free l m f n o)).next0;
+          after = λ c o a b w. e ∙ ap decoded (seated W f n c o).3.next_is ∙ decoded_at (row W f n c o) (suc (seated W f n c o).3.index) ∙ next_place W f n c o a b w;
         }
 
-  pub last_is : (k x : ℕ) → x ≡ last_in (get_or (lists r.nc r.nn given) k []) → LastIs l f k m x
-  last_is k x g =
+  pub last_is : {k : ℕ} {x : Option ℕ} → x ≡ last_in (get_or (lists r.lists.nc r.lists.nn given) k []) → LastIs l f k m x
+  last_is {k} {x} g =
       let row : List ℕ = get_or (lists (nc_of l f) (nn_of l f) (part l m (fam_part f))) k [] in
-      let e : x ≡ last_in row = rw (seen l m f r W T, T.containers, T.nodes) at g in
-      record { is = e ∙ ap last_in (sym (seconds_of (node_in f) row) ∙ ap seconds (sym (list_row W f k))) ∙ tail_code (list_of l m (con l f k)) }
+      let e : x ≡ last_in row = rw (seen W T, T.containers, T.nodes) at g in
+      record { is = e ∙ ap last_in (sym (seconds_of (node_in f) row) ∙ ap seconds (sym (list_row W f k))) ∙ last_seconds (list_of l m (con l f k)) }
 
-  pub nth_is : (k i x : ℕ) → k < nc_of l f → i < length (list_of l m (con l f k)) → x ≡ get_or (get_or (lists r.nc r.nn given) k []) i 0 → NthIs l f k i m x
-  nth_is k i x h g z =
+  pub nth_is : {k i x : ℕ} → k < nc_of l f → i < length (list_of l m (con l f k)) → x ≡ get_or (get_or (lists r.lists.nc r.lists.nn given) k []) i 0 → NthIs l f k i m x
+  nth_is {k} {i} {x} h g z =
       let row : List ℕ = get_or (lists (nc_of l f) (nn_of l f) (part l m (fam_part f))) k [] in
-      let e : x ≡ get_or row i 0 = rw (seen l m f r W T, T.containers, T.nodes) at z in
+      let e : x ≡ get_or row i 0 = rw (seen W T, T.containers, T.nodes) at z in
       let i< : i < length row = omega (arith, g, ap length (list_row W f k), length_map {B = Thing} (λ (j : ℕ). (node_in f, j)) row) in
       let o : (x < nn_of l f) × (get_or (part l m (fam_part f)) (home (nc_of l f) (nn_of l f) x) 0 ≡ suc k) = ((W.families f).row k h).own i x (at_get_d row i i< ∙ ap suc (sym e)) in
       record {

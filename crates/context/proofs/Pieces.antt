@@ -2,7 +2,7 @@
 use mathlib.Core.Path.{◌≡◌, refl, sym, ap, ◌∙◌}
 use mathlib.Core.Logic.{◌≢◌, by_cases}
 use mathlib.Core.List.{List, []}
-use Prim.Native.Nat.{ℕ, ◌+◌, ◌-◌, ◌≤◌, ◌<◌}
+use Prim.Native.Nat.{ℕ, zero, suc, ◌+◌, ◌-◌, ◌≤◌, ◌<◌}
 use native.Mathlib.Decide.{ℕ_discrete}
 use Rattle.seqs.specs.Seqs.{count}
 use native.Mathlib.Omega.{arith}
@@ -14,7 +14,7 @@ use Rattle.linked_list.specs.Links.{Linked}
 use Rattle.arena.specs.Packed.{Packed}
 use Rattle.places.specs.Store.{Kind, op, blk, reg, val, usg, Fam, slots, use_sets, vals, regs, ops_in, blocks_in, Fam-dec, Kind-dec, Thing, alive}
 use Rattle.context.specs.declared.Layout.{Layout}
-use Rattle.context.specs.Layout.{cap_of, nc_of, nn_of, sizes, kind_part, fam_part, kind_of, fam_of}
+use Rattle.context.specs.Layout.{cap_of, nc_of, nn_of, sizes, kind_part, fam_part}
 use Rattle.places.specs.Parts.{store, table_of}
 use Rattle.context.specs.Memory.{part, book_in, tag_in, parts_of, state_of, Well}
 
@@ -53,9 +53,17 @@ kind_part< val = (omega arith, omega arith)
 kind_part< usg = (omega arith, omega arith)
 
 pub fam_part_inj : (f g : Fam) → fam_part f ≡ fam_part g → f ≡ g
-fam_part_inj f g e = sym (back f) ∙ ap (λ (k : ℕ). fam_of (k - 6)) e ∙ back g
+fam_part_inj f g e = sym (back f) ∙ ap (λ (k : ℕ). fam_at (k - 6)) e ∙ back g
   where
-    back : (f : Fam) → fam_of (fam_part f - 6) ≡ f
+    fam_at : ℕ → Fam
+    fam_at zero = slots
+    fam_at (suc zero) = use_sets
+    fam_at (suc (suc zero)) = vals
+    fam_at (suc (suc (suc zero))) = regs
+    fam_at (suc (suc (suc (suc zero)))) = ops_in
+    fam_at (suc (suc (suc (suc (suc k))))) = blocks_in
+
+    back : (f : Fam) → fam_at (fam_part f - 6) ≡ f
     back slots = refl
     back use_sets = refl
     back vals = refl
@@ -64,9 +72,16 @@ fam_part_inj f g e = sym (back f) ∙ ap (λ (k : ℕ). fam_of (k - 6)) e ∙ ba
     back blocks_in = refl
 
 pub kind_part_inj : (f g : Kind) → kind_part f ≡ kind_part g → f ≡ g
-kind_part_inj f g e = sym (back f) ∙ ap (λ (k : ℕ). kind_of (k - 1)) e ∙ back g
+kind_part_inj f g e = sym (back f) ∙ ap (λ (k : ℕ). kind_at (k - 1)) e ∙ back g
   where
-    back : (f : Kind) → kind_of (kind_part f - 1) ≡ f
+    kind_at : ℕ → Kind
+    kind_at zero = op
+    kind_at (suc zero) = blk
+    kind_at (suc (suc zero)) = reg
+    kind_at (suc (suc (suc zero))) = val
+    kind_at (suc (suc (suc (suc k)))) = usg
+
+    back : (f : Kind) → kind_at (kind_part f - 1) ≡ f
     back op = refl
     back blk = refl
     back reg = refl

@@ -2,7 +2,8 @@
 use mathlib.Core.Path.{◌≡◌, refl, sym, ap, ◌∙◌}
 use mathlib.Core.Bool.{Bool, true, false, ◌||◌}
 use mathlib.Core.List.{List, [], ◌∷◌}
-use Prim.Native.Nat.{ℕ, ◌-◌}
+use Prim.Native.Nat.{ℕ}
+use Rattle.std.specs.Prelude.{Option, Some, None}
 use Rattle.rules.specs.Table.{any}
 use Rattle.places.specs.Store.{Fam, Thing}
 use Rattle.places.specs.Parts.{node_in}
@@ -27,24 +28,24 @@ any_over p t l e q = ap (any p) (sym q) ∙ e
 
 -- ---- the search
 
-pub record Searching (l : Layout) (f : Fam) (s : ℕ) (m : List ℕ) (k : ℕ) (p : Thing → Bool) : Type 0 where
+pub record Searching (l : Layout) (f : Fam) (s : ℕ) (m : List ℕ) (k : Option ℕ) (p : Thing → Bool) : Type 0 where
   pub at : At l f s m k
   pub left : any p at.todo ≡ any p (row l f s m)
 
-pub searching : {l : Layout} {f : Fam} {s : ℕ} {m : List ℕ} (p : Thing → Bool) (k : ℕ) → FirstIs l f s m k → Searching l f s m k p
+pub searching : {l : Layout} {f : Fam} {s : ℕ} {m : List ℕ} {k : Option ℕ} (p : Thing → Bool) → FirstIs l f s m k → Searching l f s m k p
 unfolding first_at
-searching p k F = record { at = first_at k F; left = refl }
+searching p F = record { at = first_at F; left = refl }
 
-module _ {l : Layout} {f : Fam} {s : ℕ} {m : List ℕ} {k : ℕ} {p : Thing → Bool} (S : SoundStore l m) (G : Searching l f s m k p) where
-  pub hit : (k ≡ 0 → ⊥) → p (node_in f, k - 1) ≡ true → true ≡ any p (row l f s m)
-  hit h e = any_hit p G.at.todo (row l f s m) (node_in f, k - 1) (here S G.at h).later G.left (here S G.at h).is e
+module _ {l : Layout} {f : Fam} {s : ℕ} {m : List ℕ} {k : Option ℕ} {p : Thing → Bool} (S : SoundStore l m) (G : Searching l f s m k p) where
+  pub hit : {q : ℕ} → k ≡ Some q → p (node_in f, q) ≡ true → true ≡ any p (row l f s m)
+  hit {q} h e = any_hit p G.at.todo (row l f s m) (node_in f, q) (here S G.at h).later G.left (here S G.at h).is e
 
-  pub miss : (k ≡ 0 → ⊥) → p (node_in f, k - 1) ≡ false → (j : ℕ) → NextIs l f (k - 1) m j → Searching l f s m j p
-  miss h e j N =
+  pub miss : {q : ℕ} → k ≡ Some q → p (node_in f, q) ≡ false → {j : Option ℕ} → NextIs l f q m j → Searching l f s m j p
+  miss {q} h e N =
       record {
-        at = next_at S G.at h j N;
-        left = ap (any p) (next_todo S G.at h j N) ∙ any_miss p G.at.todo (row l f s m) (node_in f, k - 1) (here S G.at h).later G.left (here S G.at h).is e;
+        at = next_at S G.at h N;
+        left = ap (any p) (next_todo S G.at h N) ∙ any_miss p G.at.todo (row l f s m) (node_in f, q) (here S G.at h).later G.left (here S G.at h).is e;
       }
 
-  pub over : k ≡ 0 → false ≡ any p (row l f s m)
+  pub over : k ≡ None → false ≡ any p (row l f s m)
   over z = any_over p G.at.todo (row l f s m) G.left (at_end S G.at z)

@@ -1,14 +1,14 @@
 -- A memory of zeros with a header is an empty store. Assumes nothing.
 use mathlib.Core.Path.{◌≡◌, refl, sym, ap, ◌∙◌}
 use mathlib.Core.Logic.{ite}
-use mathlib.Core.List.{List, [], ◌∷◌}
+use mathlib.Core.List.{List, [], ◌∷◌, ◌++◌}
 use mathlib.Core.Option.{Option, none}
-use Prim.Native.Nat.{ℕ, zero, suc, ◌+◌, ◌≤◌, ◌<◌}
+use Prim.Native.Nat.{ℕ, zero, suc, ◌+◌, ◌-◌, ◌≤◌, ◌<◌}
 use native.Mathlib.Omega.{arith}
-use lib.ListN.{length, get_or, set, take, drop, length-drop, length-set, replicate}
-use lib.Seq.{ext_get_or, get_or-take, get_or-drop, get_or-set_other, length-take-le}
+use lib.ListN.{length, get_or, set, take, drop, length-append, length-drop, get_or-append, get_or-replicate, replicate}
+use lib.Seq.{ext_get_or, get_or-append_right, get_or-take, get_or-drop, get_or-set_other, length-take-le}
 use Rattle.seqs.specs.Split.{split}
-use Rattle.seqs.proofs.Parts.{zero_more, rest_is, start_first, part_long as long-part, part_zero as zero-part}
+use Rattle.seqs.proofs.Parts.{rest_is, start_first, part_long as long-part, part_zero as zero-part}
 use Rattle.linked_list.specs.Links.{home, Emptied}
 use Rattle.linked_list.proofs.Moves.{emptied}
 use Rattle.bits.proofs.Digits.{all_clear}
@@ -159,10 +159,11 @@ past_kept l m m' fits long same =
     (λ i h. get_or-drop (total l) m' i 0 ∙ same (total l + i) (omega arith) ∙ sym (get_or-drop (total l) m i 0))
     ∙ sym (rest_is (sizes l) m)
 
-pub started_all : (l : Layout) (m m₁ : List ℕ) → Caps l → total l ≤ length m → Zeroed (total l) m m₁ → length (headed l.ops l.blocks l.regions l.values l.uses m₁) ≡ length m
+pub started_all : (l : Layout) (m m₁ : List ℕ) {n : ℕ} → Caps l → total l ≤ length m → n ≡ total l → Zeroed n m m₁ → length (headed l.ops l.blocks l.regions l.values l.uses m₁) ≡ length m
     → Started l m (headed l.ops l.blocks l.regions l.values l.uses m₁)
 unfolding split
-started_all l m m₁ C fits Z long =
+started_all l m m₁ C fits e Z₀ long =
+    let Z : Zeroed (total l) m m₁ = rw e at Z₀ in
     let m₂ : List ℕ = headed l.ops l.blocks l.regions l.values l.uses m₁ in
     let r : SoundStore l m₂ × (state_of l m₂ ≡ empty (cap_of l)) =
     started_store l m₂ (omega (arith, long)) (λ i h g. past_head l.ops l.blocks l.regions l.values l.uses m₁ i h ∙ Z.zero i g) C
@@ -173,10 +174,14 @@ started_all l m m₁ C fits Z long =
       rest = past_kept l m m₂ fits long (λ i h. past_head l.ops l.blocks l.regions l.values l.uses m₁ i (omega arith) ∙ Z.rest i h);
     }
 
-pub zeroed_more : (i : ℕ) (m₀ m : List ℕ) → i < length m₀ → Zeroed i m₀ m → Zeroed (i + 1) m₀ (set m i 0)
-zeroed_more i m₀ m h Z =
+-- the part that the code filled with zeros
+pub filled : {n : ℕ} (m : List ℕ) {s : List ℕ} → n ≤ length m → length s ≡ length (take n m) → s ≡ replicate (length (take n m)) 0 → Zeroed n m (s ++ drop n m)
+filled {n} m {s} fits len zeros =
     record {
-      long = simp length-set Z.long;
-      zero = zero_more m i (omega (arith, Z.long)) Z.zero;
-      rest = λ j g. get_or-set_other m i j 0 0 (omega arith) ∙ Z.rest j (omega arith);
+      long = length-append s (drop n m) ∙ omega (arith, long, length-drop n m);
+      zero = λ i h. get_or-append s (drop n m) 0 i (omega (arith, h, long)) ∙ rw zeros (get_or-replicate (length (take n m)) i 0 0 (omega (arith, h, length-take-le n m fits)));
+      rest = λ i h. get_or-append_right s (drop n m) i 0 (omega (arith, h, long)) ∙ rw long (get_or-drop n m (i - n) 0 ∙ ap (λ (j : ℕ). get_or m j 0) (omega (arith, h)));
     }
+  where
+    long : length s ≡ n
+    long = len ∙ length-take-le n m fits

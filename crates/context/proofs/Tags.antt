@@ -1,12 +1,13 @@
 -- The flags of an operation and the type of a value are stored and read, and become 0 as it ends: one law for both. Assumes nothing.
 use mathlib.Core.Path.{◌≡◌, refl, sym, ap, ◌∙◌, subst}
 use mathlib.Core.Logic.{◌≢◌, by_cases}
-use mathlib.Core.List.{List, []}
-use Prim.Native.Nat.{ℕ, ◌+◌, ◌-◌, ◌<◌}
+use mathlib.Core.List.{List, [], ◌++◌}
+use Prim.Native.Nat.{ℕ, ◌+◌, ◌-◌, ◌≤◌, ◌<◌}
 use native.Mathlib.Decide.{ℕ_discrete}
 use native.Mathlib.Omega.{arith}
-use lib.ListN.{length, get_or, set, take, drop}
-use lib.Seq.{get_or-set_same, get_or-set_other}
+use lib.ListN.{length, get_or, set, take, drop, length-set, length-drop, take-append-drop}
+use Rattle.std.proofs.lemmas.List.{set-append_left, set-append_right}
+use lib.Seq.{get_or-set_same, get_or-set_other, get_or-take, get_or-drop, length-take-le}
 use Rattle.seqs.specs.Split.{split, splice, length_part}
 use Rattle.seqs.specs.Seqs.{upd}
 use Rattle.places.specs.Store.{Kind, op, blk, reg, val, usg, Kind-dec, Thing, Thing-dec, State, alive, Live, end}
@@ -88,24 +89,46 @@ module _ {l : Layout} {m m' : List ℕ} {K : Kind} (h : HasTag K) (p v : ℕ) (S
       (λ e. rw e (upd_same Thing-dec (state_of l m).tag (K, p) v ∙ ok (rw e at z')))
       (λ d. upd_other Thing-dec (state_of l m).tag (K, p) v d ∙ W.spare a z'))
 
-module _ {K : Kind} (h : HasTag K) (l : Layout) (m : List ℕ) (a : ℕ) (W : Well l m) (F : TagsAt l K a) where
+-- a number stored within a part
+set_within : (a c p v : ℕ) (m : List ℕ) → p < c → a + c ≤ length m → set m (a + p) v ≡ splice a c (set (take c (drop a m)) p v) m
+set_within a c p v m h f =
+    let part : List ℕ = take c (drop a m) in
+    let past : List ℕ = drop c (drop a m) in
+    let long : length part ≡ c = length-take-le c (drop a m) (omega (arith, length-drop a m, f)) in
+    let whole : m ≡ take a m ++ (part ++ past) = sym (ap (λ (r : List ℕ). take a m ++ r) (take-append-drop c (drop a m)) ∙ take-append-drop a m) in
+    let at : a + p - a ≡ p = omega arith in
+    ap (λ (t : List ℕ). set t (a + p) v) whole
+    ∙ set-append_right (take a m) (part ++ past) a (a + p) v (length-take-le a m (omega (arith, f))) (omega arith)
+    ∙ ap (λ (r : List ℕ). take a m ++ r) (ap (λ (i : ℕ). set (part ++ past) i v) at ∙ set-append_left part past p v (omega (arith, h, long)))
+
+module _ {K : Kind} (h : HasTag K) {l : Layout} {m : List ℕ} {a : ℕ} (W : Well l m) (F : TagsAt l K a) where
   abbrev e : ℕ
   e = a + cap_of l K
+
+  size : e - a ≡ cap_of l K
+  size = omega arith
 
   seen : take (e - a) (drop a m) ≡ part l m (tag_part K)
   seen = lent l (tag_part K) a e m (omega (arith, tag_part< h)) F.starts (omega (arith, size_is h l))
 
-  pub tags_long : length (take (e - a) (drop a m)) ≡ cap_of l K
+  tags_long : length (take (e - a) (drop a m)) ≡ cap_of l K
   tags_long = omega (arith, length_part a e m (omega (arith, F.fits, W.fits)))
 
-  pub tag_read : (p v : ℕ) → v ≡ get_or (take (e - a) (drop a m)) p 0 → TagIs l (K, p) m v
+  pub tag_read : (p : ℕ) → p < cap_of l K → TagIs l (K, p) m (get_or m (a + p) 0)
   unfolding store parts_of
-  tag_read p v g = record { is = g ∙ ap (λ (s : List ℕ). get_or s p 0) seen ∙ sym (tag_here h (split (sizes l) m) p) }
+  tag_read p h' =
+      record {
+        is = sym (get_or-drop a m p 0) ∙ sym (get_or-take (e - a) (drop a m) p 0 (omega (arith, h'))) ∙ ap (λ (s : List ℕ). get_or s p 0) seen
+            ∙ sym (tag_here h (split (sizes l) m) p);
+      }
 
-  pub tagged : (p v : ℕ) (s : List ℕ) → length s ≡ length (take (e - a) (drop a m)) → p < cap_of l K → (alive (state_of l m) (K, p) ≡ 0 → v ≡ 0) → s ≡ set (take (e - a) (drop a m)) p v → Tagged l (K, p) v m (splice a (e - a) s m)
-  tagged p v s kept g ok said =
+  pub tagged : (p v : ℕ) → p < cap_of l K → (alive (state_of l m) (K, p) ≡ 0 → v ≡ 0) → Tagged l (K, p) v m (set m (a + p) v)
+  tagged p v g ok =
+      let s : List ℕ = set (take (e - a) (drop a m)) p v in
+      let kept : length s ≡ length (take (e - a) (drop a m)) = simp length-set refl in
       let S₀ : Swapped l (tag_part K) s m (splice a (e - a) s m) = swap l (tag_part K) a e s m (omega (arith, tag_part< h)) F.starts (omega (arith, size_is h l)) (omega (arith, F.fits, W.fits)) kept in
-      let S : Swapped l (tag_part K) (set (part l m (tag_part K)) p v) m (splice a (e - a) s m) = subst (λ (t : List ℕ). Swapped l (tag_part K) t m (splice a (e - a) s m)) (said ∙ ap (λ (t : List ℕ). set t p v) seen) S₀ in
+      let S₁ : Swapped l (tag_part K) s m (set m (a + p) v) = subst (λ (t : List ℕ). Swapped l (tag_part K) s m t) (sym (set_within a (e - a) p v m (omega (arith, g)) (omega (arith, F.fits, W.fits)))) S₀ in
+      let S : Swapped l (tag_part K) (set (part l m (tag_part K)) p v) m (set m (a + p) v) = subst (λ (t : List ℕ). Swapped l (tag_part K) t m (set m (a + p) v)) (ap (λ (t : List ℕ). set t p v) seen) S₁ in
       let long : p < length (part l m (tag_part K)) = omega (arith, g, tags_long, ap length seen) in
       record {
         well = well_other (tag_part K) (tag_part< h).0 W S (spare_tagged h p v S long W ok);

@@ -1,10 +1,11 @@
 -- The parts of the one memory: their sizes, of the five capacities. Assumes nothing: these are definitions.
-use Rattle.std.specs.Prelude.{◌≡◌, List, [], ◌∷◌, ℕ, zero, suc, ◌+◌, ◌*◌, ◌/◌, ◌≤◌, ◌<◌}
+use Rattle.std.specs.Prelude.{◌≡◌, List, [], ◌∷◌, ℕ, ◌+◌, ◌*◌, ◌/◌, ◌≤◌, ◌<◌}
 use Rattle.seqs.specs.Split.{start}
 use Rattle.places.specs.Store.{Kind, op, blk, reg, val, usg, Fam, slots, use_sets, vals, regs, ops_in, blocks_in}
 use Rattle.places.specs.Parts.{node_in}
 use Rattle.context.specs.declared.Layout.{Layout}
 use Rattle.context.specs.declared.Span.{Span}
+use Rattle.context.specs.declared.Table.{Table}
 
 abbrev pub cap_of : Layout → Kind → ℕ
 cap_of l op = l.ops
@@ -74,22 +75,6 @@ pub data HasTag : Kind → Type 0 where
   flags : HasTag op
   types : HasTag val
 
--- the codes by which the functions are told a family and a kind
-abbrev pub fam_of : ℕ → Fam
-fam_of zero = slots
-fam_of (suc zero) = use_sets
-fam_of (suc (suc zero)) = vals
-fam_of (suc (suc (suc zero))) = regs
-fam_of (suc (suc (suc (suc zero)))) = ops_in
-fam_of (suc (suc (suc (suc (suc k))))) = blocks_in
-
-abbrev pub kind_of : ℕ → Kind
-kind_of zero = op
-kind_of (suc zero) = blk
-kind_of (suc (suc zero)) = reg
-kind_of (suc (suc (suc zero))) = val
-kind_of (suc (suc (suc (suc k)))) = usg
-
 -- the limits
 pub record Caps (l : Layout) : Type 0 where
   pub ops : l.ops ≤ 4096
@@ -116,23 +101,37 @@ pub record FamiliesAt (l : Layout) (r : ℕ) : Type 0 where
   pub is : r ≡ start (sizes l) 6
   pub small : r ≤ 300000
 
+-- r is the table of n places that starts at a
+pub record TableAt (a n : ℕ) (r : Table) : Type 0 where
+  pub at : r.at ≡ a
+  pub end : r.end ≡ a + arena n
+  pub places : r.places ≡ n
+
+-- r is the family of nc lists and nn nodes that starts at a
+pub record FamilyAt (a nc nn : ℕ) (r : Span) : Type 0 where
+  pub at : r.at ≡ a
+  pub end : r.end ≡ a + family nc nn
+  pub containers : r.lists.nc ≡ nc
+  pub nodes : r.lists.nn ≡ nn
+
 -- r is where the family f stands
 pub record SpanOf (l : Layout) (f : Fam) (r : Span) : Type 0 where
   pub starts : r.at ≡ start (sizes l) (fam_part f)
-  pub containers : r.nc ≡ nc_of l f
-  pub nodes : r.nn ≡ nn_of l f
-  pub fits : r.at + family r.nc r.nn ≤ total l
-  pub small : r.at ≤ 600000
-  pub nc≤ : r.nc ≤ 24576
-  pub nn≤ : r.nn ≤ 16384
+  pub ends : r.end ≡ r.at + family r.lists.nc r.lists.nn
+  pub containers : r.lists.nc ≡ nc_of l f
+  pub nodes : r.lists.nn ≡ nn_of l f
+  pub fits : r.end ≤ total l
+  pub small : r.end ≤ 600000
+  pub nc≤ : r.lists.nc ≤ 24576
+  pub nn≤ : r.lists.nn ≤ 16384
 
 -- r is where the table of the kind k stands, with its capacity
-pub record RoomOf (l : Layout) (k : Kind) (r : Span) : Type 0 where
+pub record RoomOf (l : Layout) (k : Kind) (r : Table) : Type 0 where
   pub starts : r.at ≡ start (sizes l) (kind_part k)
-  pub capacity : r.nc ≡ cap_of l k
-  pub size : r.nn ≡ arena r.nc
-  pub fits : r.at + r.nn ≤ total l
-  pub nc≤ : r.nc ≤ 16384
+  pub ends : r.end ≡ r.at + arena r.places
+  pub capacity : r.places ≡ cap_of l k
+  pub fits : r.end ≤ total l
+  pub small : r.places ≤ 16384
 
 -- r is where the flags, or the types, start
 pub record TagsAt (l : Layout) (k : Kind) (r : ℕ) : Type 0 where

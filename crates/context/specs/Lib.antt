@@ -1,3 +1,5 @@
+pub mod Nest
+pub mod Kinds
 pub mod Layout
 pub mod Memory
 pub mod Reading

@@ -9,8 +9,11 @@ use Rattle.seqs.specs.Seqs.{upd}
 use Rattle.places.specs.Store.{Thing-dec, Kind, op, blk, reg, val, usg, Fam, Thing, Con, State, alive, Live, Sound, birth, end, enter, leave}
 use Rattle.places.specs.View.{num}
 use Rattle.rules.specs.Refusal.{check}
-use Rattle.bits.specs.declared.Found.{Found}
-use Rattle.bits.specs.declared.Found.TheVariants.{At, Nothing}
+use Rattle.std.specs.Prelude as Rust
+use Rattle.std.specs.Prelude.{Some, None, Result, Ok, Err}
+use Rattle.edit.specs.declared.Refusal.{Refusal}
+use Rattle.edit.specs.Kinds.{number_of, code_of}
+use Rattle.places.specs.Roles.{missing_code, Unnamed}
 use Rattle.std.proofs.Math.Logic.{ite}
 use Rattle.std.proofs.Math.Decide.{dec_lt}
 use Rattle.places.specs.Parts.{Book, Parts, Rows, node_in, con_of, rows_of, store}
@@ -120,9 +123,19 @@ pub record Finished (l : Layout) (k : Kind) (p : ℕ) (m m' : List ℕ) : Type 0
   pub state : state_of l m' ≡ end (k, p) (state_of l m)
 
 -- the answer of a look-up by number
-abbrev pub Finds : State → Kind → ℕ → Found → Type 0
-Finds P k x (At p) = Live P (k, p) × (num P (k, p) ≡ x)
-Finds P k x Nothing = (p : ℕ) → Live P (k, p) → num P (k, p) ≢ x
+abbrev pub Finds : State → Kind → ℕ → Rust.Option ℕ → Type 0
+Finds P k x (Some p) = Live P (k, p) × (num P (k, p) ≡ x)
+Finds P k x None = Unnamed P k x
+
+-- the same, or the refusal
+abbrev pub LooksUp : State → Kind → ℕ → Result ℕ Refusal → Type 0
+LooksUp P k x (Ok p) = Live P (k, p) × (num P (k, p) ≡ x)
+LooksUp P k x (Err e) = Unnamed P k x × (number_of e ≡ missing_code k)
+
+-- what Rust's option says
+abbrev pub given : {A : Type 0} → Rust.Option A → Option A
+given None = none
+given (Some x) = some x
 
 -- the thing a has the flags or the type t
 unfoldable pub set_tag : Thing → ℕ → State → State
@@ -137,9 +150,9 @@ pub record Tagged (l : Layout) (a : Thing) (t : ℕ) (m m' : List ℕ) : Type 0 
   pub rest : part l m' 14 ≡ part l m 14
   pub state : state_of l m' ≡ set_tag a t (state_of l m)
 
--- r is what is stored for the list that the node n of the family f stands in
-pub record HomeIs (l : Layout) (f : Fam) (n : ℕ) (m : List ℕ) (r : ℕ) : Type 0 where
-  pub own : (state_of l m).own (node_in f, n) f ≡ con_of (con l f) (decode r)
+-- r is the list that the node n of the family f stands in
+pub record HomeIs (l : Layout) (f : Fam) (n : ℕ) (m : List ℕ) (r : Rust.Option ℕ) : Type 0 where
+  pub own : (state_of l m).own (node_in f, n) f ≡ con_of (con l f) (given r)
 
 -- how long the list k of the family f is; how many things of a kind live; its next number
 pub record LengthIs (l : Layout) (f : Fam) (k : ℕ) (m : List ℕ) (r : ℕ) : Type 0 where
@@ -149,23 +162,23 @@ pub record LengthIs (l : Layout) (f : Fam) (k : ℕ) (m : List ℕ) (r : ℕ) : 
 abbrev pub room_code : ℕ → ℕ → ℕ → ℕ
 room_code lives cap next = ite (dec_lt lives cap) (ite (dec_lt next 4294967295) 0 21) 20
 
-pub record RoomIs (l : Layout) (k : Kind) (m : List ℕ) (r : ℕ) : Type 0 where
-  pub is : r ≡ room_code (length ((state_of l m).tab k).order) (cap_of l k) ((state_of l m).tab k).next
-  pub some : r ≡ 0 → RoomFor (state_of l m) k (cap_of l k)
+pub record RoomIs (l : Layout) (k : Kind) (m : List ℕ) (r : Result (Unit {0}) Refusal) : Type 0 where
+  pub is : code_of r ≡ room_code (length ((state_of l m).tab k).order) (cap_of l k) ((state_of l m).tab k).next
+  pub some : r ≡ Ok tt → RoomFor (state_of l m) k (cap_of l k)
 
 -- the code of a list of n things of the kind that is to grow at index i: 12, 19, and then 20 and 21
-pub record GrowIs (l : Layout) (k : Kind) (n i : ℕ) (m : List ℕ) (r : ℕ) : Type 0 where
-  pub is : r ≡ check (ltb n i) 12 (check (leb 64 n) 19 (room_code (length ((state_of l m).tab k).order) (cap_of l k) ((state_of l m).tab k).next))
-  pub short : r ≡ 0 → n < 64
-  pub room : r ≡ 0 → RoomFor (state_of l m) k (cap_of l k)
+pub record GrowIs (l : Layout) (k : Kind) (n i : ℕ) (m : List ℕ) (r : Result (Unit {0}) Refusal) : Type 0 where
+  pub is : code_of r ≡ check (ltb n i) 12 (check (leb 64 n) 19 (room_code (length ((state_of l m).tab k).order) (cap_of l k) ((state_of l m).tab k).next))
+  pub short : r ≡ Ok tt → n < 64
+  pub room : r ≡ Ok tt → RoomFor (state_of l m) k (cap_of l k)
 
--- what stands for the first of a list: its place + 1, and 0 for none
-abbrev pub head_code : List Thing → ℕ
-head_code [] = 0
-head_code (x ∷ xs) = suc x.1
+-- the place of the first of a list
+abbrev pub first_place : List Thing → Rust.Option ℕ
+first_place [] = None
+first_place (x ∷ xs) = Some x.1
 
-pub record FirstIs (l : Layout) (f : Fam) (k : ℕ) (m : List ℕ) (r : ℕ) : Type 0 where
-  pub is : r ≡ head_code ((state_of l m).list (con l f k).1 (con l f k).0)
+pub record FirstIs (l : Layout) (f : Fam) (k : ℕ) (m : List ℕ) (r : Rust.Option ℕ) : Type 0 where
+  pub is : r ≡ first_place ((state_of l m).list (con l f k).1 (con l f k).0)
 
 -- the capacities that stand in the header
 abbrev pub layout_of : List ℕ → Layout

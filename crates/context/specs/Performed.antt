@@ -1,8 +1,7 @@
 -- An edit put to a sound store in memory: the reply and the store after it are the rules'. Assumes nothing: these are definitions.
 use Rattle.std.specs.Prelude.{◌≡◌, ◌≢◌, List, ℕ}
 use Rattle.edit.specs.Record.{Edit}
-use Rattle.edit.specs.Answer.{numbers_of}
-use Rattle.edit.specs.declared.Answer.{Answer}
+use Rattle.edit.specs.Answer.{Answer, numbers_of}
 use Rattle.rules.specs.Refusal.{refusal_of}
 use Rattle.rules.specs.Step.{perform}
 use Rattle.places.specs.Alias.{RState}

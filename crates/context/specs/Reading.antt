@@ -1,6 +1,6 @@
 -- What the readers of lists and tables say of the store by places.
 -- Assumes nothing: these are definitions.
-use Rattle.std.specs.Prelude.{◌≡◌, Bool, List, [], ◌∷◌, ◌++◌, ℕ, suc, ◌+◌, ◌≤◌, ◌<◌, length, get_or}
+use Rattle.std.specs.Prelude.{◌≡◌, Option, Some, None, Bool, List, [], ◌∷◌, ◌++◌, ℕ, ◌+◌, ◌≤◌, ◌<◌, length, get_or}
 use Rattle.std.proofs.Math.Option.{none, some}
 use Rattle.seqs.specs.Seqs.{seq_last_of}
 use Rattle.places.specs.Store.{Kind, op, usg, Fam, slots, Thing, Con, State, Live, outer, up, enter}
@@ -9,25 +9,25 @@ use Rattle.places.specs.View.{num}
 use Rattle.rules.specs.Table.{some_and, is_some}
 use Rattle.context.specs.declared.Layout.{Layout}
 use Rattle.context.specs.Layout.{cap_of, nn_of}
-use Rattle.context.specs.Memory.{part, con, state_of, head_code, Well}
+use Rattle.context.specs.Memory.{part, con, state_of, first_place, Well}
 
 -- the list c of the store
 abbrev pub list_of : Layout → List ℕ → Con → List Thing
 list_of l m c = (state_of l m).list c.1 c.0
 
--- what stands for the last of a list: its place + 1, and 0 for none
-abbrev pub last_code : List Thing → ℕ
-last_code [] = 0
-last_code (x ∷ xs) = suc (seq_last_of x xs).1
+-- the place of the last of a list
+abbrev pub last_place : List Thing → Option ℕ
+last_place [] = None
+last_place (x ∷ xs) = Some (seq_last_of x xs).1
 
--- r stands for the node after n in its list: 0 where none follows, and where n is in no list
-pub record NextIs (l : Layout) (f : Fam) (n : ℕ) (m : List ℕ) (r : ℕ) : Type 0 where
-  pub none : (state_of l m).own (node_in f, n) f ≡ none → r ≡ 0
-  pub after : (c : Con) → (state_of l m).own (node_in f, n) f ≡ some c → (a b : List Thing) → list_of l m c ≡ a ++ (node_in f, n) ∷ b → r ≡ head_code b
+-- r is the node after n in its list: none where none follows, and where n is in no list
+pub record NextIs (l : Layout) (f : Fam) (n : ℕ) (m : List ℕ) (r : Option ℕ) : Type 0 where
+  pub none : (state_of l m).own (node_in f, n) f ≡ none → r ≡ None
+  pub after : (c : Con) → (state_of l m).own (node_in f, n) f ≡ some c → (a b : List Thing) → list_of l m c ≡ a ++ (node_in f, n) ∷ b → r ≡ first_place b
 
--- r stands for the last of the list k of the family f
-pub record LastIs (l : Layout) (f : Fam) (k : ℕ) (m : List ℕ) (r : ℕ) : Type 0 where
-  pub is : r ≡ last_code (list_of l m (con l f k))
+-- r is the last of the list k of the family f
+pub record LastIs (l : Layout) (f : Fam) (k : ℕ) (m : List ℕ) (r : Option ℕ) : Type 0 where
+  pub is : r ≡ last_place (list_of l m (con l f k))
 
 -- r is the place of the i-th node of the list k of the family f
 pub record NthIs (l : Layout) (f : Fam) (k i : ℕ) (m : List ℕ) (r : ℕ) : Type 0 where

@@ -1,6 +1,8 @@
 -- A store is started: the words that it needs, the refusal, and the state that it begins in.
 -- Assumes nothing: these are definitions.
-use Rattle.std.specs.Prelude.{◌≡◌, ◌≢◌, List, ℕ, length}
+use Rattle.std.specs.Prelude.{◌≡◌, ◌≢◌, List, ℕ, length, Option, Some, None, Result}
+use Rattle.edit.specs.declared.Refusal.{Refusal}
+use Rattle.edit.specs.Kinds.{code_of}
 use Rattle.std.proofs.Math.Logic.{ite}
 use Rattle.std.proofs.Math.Decide.{dec_le, dec_lt}
 use Rattle.rules.specs.History.{Five}
@@ -22,14 +24,18 @@ within n limit r = ite (dec_lt 0 n) (ite (dec_le n limit) r 5) 5
 unfoldable pub start_code : Layout → ℕ → ℕ
 start_code l long = within l.ops 4096 (within l.blocks 1024 (within l.regions 1024 (within l.values 8192 (within l.uses 16384 (ite (dec_le (total l) long) 0 5)))))
 
-pub record StartIs (l : Layout) (m m' : List ℕ) (r : ℕ) : Type 0 where
+-- the reply as a number, 0 or 5
+pub record StartBy (l : Layout) (m m' : List ℕ) (r : ℕ) : Type 0 where
   pub reply : r ≡ start_code l (length m)
   pub started : r ≡ 0 → Started l m m'
   pub state : r ≡ 0 → abs l m' ≡ start (five_of l)
   -- a refused start changes nothing
   pub kept : r ≢ 0 → m' ≡ m
 
--- r is how many words a store needs: 0 where no store has these capacities
-pub record WordsNeeded (l : Layout) (r : ℕ) : Type 0 where
-  pub is : Caps l → r ≡ total l
-  pub none : (Caps l → ⊥) → r ≡ 0
+abbrev pub StartIs : Layout → List ℕ → List ℕ → Result (Unit {0}) Refusal → Type 0
+StartIs l m m' r = StartBy l m m' (code_of r)
+
+-- r is how many words a store needs: none where no store has these capacities
+pub record WordsNeeded (l : Layout) (r : Option ℕ) : Type 0 where
+  pub is : Caps l → r ≡ Some (total l)
+  pub none : (Caps l → ⊥) → r ≡ None

@@ -2,14 +2,14 @@
 use Rattle.std.specs.Prelude.{◌≡◌, ◌≢◌, List, [], ◌∷◌, ◌++◌, map, ℕ, ◌+◌, ◌≤◌, ◌<◌, length, get_or}
 use Rattle.seqs.specs.Seqs.{seq_swap_out}
 use Rattle.std.proofs.Math.Option.{none, some}
-use Rattle.places.specs.Store.{Role, op, blk, reg, val, usg, Fam, slots, use_sets, vals, regs, ops_in, blocks_in, value_uses, regions, Thing, Thing-dec, Con, State, alive, empty, Live, Fit, Clear, up, birth, end, enter, leave, relink}
+use Rattle.places.specs.Store.{Role, op, blk, reg, val, usg, Fam, slots, use_sets, vals, regs, value_uses, regions, Thing, Thing-dec, Con, State, alive, empty, Live, Fit, Clear, up, birth, end, enter, leave, relink}
 use Rattle.places.specs.View.{num, Names, view, named, named_c, n_hold, n_enter, n_birth}
 use Rattle.places.specs.Edits.{n_drop, birth_use, n_birth_use, end_use, place_move_use}
 use Rattle.places.specs.Parts.{node_in}
 use Rattle.places.specs.Walk.{cut_all}
 use Rattle.context.specs.declared.Layout.{Layout}
 use Rattle.context.specs.Layout.{cap_of}
-use Rattle.context.specs.Memory.{head_code, con, part, state_of, Well, SoundStore, RoomFor}
+use Rattle.context.specs.Memory.{con, part, state_of, Well, SoundStore, RoomFor}
 
 -- the use at the place u can be held by d
 pub record CanMove (P : State) (u : ℕ) (d : Con) : Type 0 where
@@ -75,11 +75,10 @@ unfoldable pub dropped_to : Layout → ℕ → List ℕ → Names
 dropped_to l s m = n_drop (named_c (state_of l m) (con l slots s)) (map (num (state_of l m)) (slot_list l s m)) (view (state_of l m))
 
 -- what is left to do is the whole, and what is counted with it too
-pub record Dropping (l : Layout) (s : ℕ) (m m' : List ℕ) (k n : ℕ) : Type 0 where
+pub record Dropping (l : Layout) (s : ℕ) (m m' : List ℕ) (n : ℕ) : Type 0 where
   pub sound : SoundStore l m'
   pub rest : part l m' 14 ≡ part l m 14
   pub state : cut_all (slot_list l s m') (state_of l m') ≡ cut_all (slot_list l s m) (state_of l m)
-  pub first : k ≡ head_code (slot_list l s m')
   pub left : dropped_to l s m' ≡ dropped_to l s m
   pub counted : n + length (slot_list l s m') ≡ length (slot_list l s m)
 
@@ -153,11 +152,6 @@ pub record Ended (l : Layout) (a : Thing) (m m' : List ℕ) : Type 0 where
   pub state : state_of l m' ≡ cut_all (a ∷ []) (state_of l m)
 
 -- ---- an operation is put into a block and taken out, a block into a region
-
--- the families of the things that may stand in no list
-pub data Member : Fam → Type 0 where
-  operations : Member ops_in
-  blocks : Member blocks_in
 
 -- the node n of the family can be put into the list c
 pub record CanLinkTo (P : State) (f : Fam) (n : ℕ) (c : Con) : Type 0 where

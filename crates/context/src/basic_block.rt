@@ -8,7 +8,7 @@ ghost use Rattle.context.specs.Steps.{BorneBlock, CanEnd, Ended};
 
 use super::lists::detach;
 use super::value::user_of;
-use super::{Layout, bear, finish, first_of, home_of, next_of};
+use super::{Family, Kind, Layout, bear, finish, first_of, home_of, next_of};
 
 // A block is born, in no region and with empty lists.
 pub fn birth_block(m: &mut [u32], l: Layout) -> usize
@@ -16,7 +16,7 @@ pub fn birth_block(m: &mut [u32], l: Layout) -> usize
     requires room_for { RoomFor (state_of l m.old) blk l.blocks }
     ensures { BorneBlock l m.old m.new result }
 {
-    bear(m, l, 1)
+    bear(m, l, Kind::Block)
 }
 
 // The block at the place `b`, linked or not, with nothing in its lists, ends.
@@ -25,8 +25,8 @@ pub fn end_block(m: &mut [u32], l: Layout, b: usize)
     requires can_end { CanEnd (state_of l m.old) (blk, b) }
     ensures { Ended l (blk, b) m.old m.new }
 {
-    detach(m, l, 5, b);
-    finish(m, l, 1, b);
+    detach(m, l, Family::Blocks, b);
+    finish(m, l, Kind::Block, b);
 }
 
 // Whether the operation at which the use at the place `u` stands is in a block.
@@ -35,9 +35,7 @@ fn user_placed(m: &[u32], l: Layout, u: usize) -> bool
     requires live { Live (state_of l m.now) (usg, u) }
     ensures { result ≡ user_placed (state_of l m.now) (usg, u) }
 {
-    let o = user_of(m, l, u);
-    let h = home_of(m, l, 4, o);
-    h != 0
+    home_of(m, l, Family::Operations, user_of(m, l, u)).is_some()
 }
 
 // Whether a user of the block at the place `b` is in no block.
@@ -46,13 +44,12 @@ pub fn stray_user(m: &[u32], l: Layout, b: usize) -> bool
     requires live { Live (state_of l m.now) (blk, b) }
     ensures { result ≡ place_stray_user (state_of l m.now) (blk, b) }
 {
-    let mut k = first_of(m, l, 1, l.values + b);
-    while k != 0 {
-        let g = user_placed(m, l, k - 1);
-        if !g {
+    let mut next = first_of(m, l, Family::UseSets, l.values + b);
+    while let Some(u) = next {
+        if !user_placed(m, l, u) {
             return true;
         }
-        k = next_of(m, l, 1, k - 1);
+        next = next_of(m, l, Family::UseSets, u);
     }
     false
 }

@@ -8,18 +8,98 @@ pub mod operation; // operation.rt
 pub mod basic_block; // basic_block.rt
 pub mod region; // region.rt
 
-ghost use Rattle.std.specs.Prelude.{◌≡◌, ◌≤◌, ◌<◌, length, get_or, set};
+ghost use Rattle.std.specs.Prelude.{◌≡◌, ◌≤◌, ◌<◌, length};
+ghost use Rattle.edit.specs.Kinds.{number_of};
+ghost use Rattle.linked_list.specs.Links.{Sizes};
 ghost use Rattle.places.specs.Store.{Live, op, val};
-ghost use Rattle.context.specs.Layout.{cap_of, nc_of, nn_of, total, fam_of, kind_of, Caps, ArenaSize, HalfSize, FamiliesAt, SpanOf, RoomOf, TagsAt, TotalIs, HasTag};
-ghost use Rattle.context.specs.Memory.{con, state_of, Well, RoomFor, Borne, Finished, Finds, HomeIs, LengthIs, RoomIs, GrowIs, FirstIs};
+ghost use Rattle.places.specs.Roles.{missing_code};
+ghost use Rattle.context.specs.Kinds.{kind_of, fam_of, IsNested, IsMember, IsMemberFamily, IsInnerFamily};
+ghost use Rattle.context.specs.Layout.{cap_of, nc_of, nn_of, total, Caps, ArenaSize, HalfSize, TableAt, FamilyAt, FamiliesAt, SpanOf, RoomOf, TagsAt, TotalIs, HasTag};
+ghost use Rattle.context.specs.Memory.{con, state_of, Well, RoomFor, Borne, Finished, Finds, LooksUp, HomeIs, LengthIs, RoomIs, GrowIs, FirstIs};
 ghost use Rattle.context.specs.Reading.{list_of, NextIs, LastIs, NthIs, NumberIs, LiveIs, NextNumberIs, NthLiveIs};
-ghost use Rattle.context.specs.Steps.{Zeroed, Started};
+ghost use Rattle.context.specs.Steps.{Started};
 ghost use Rattle.context.specs.Start.{StartIs, WordsNeeded};
 ghost use Rattle.context.specs.Checked.{Headed, Fits, TableOk, FamilyOk, TablesOk, FamiliesOk, SpareAt, SpareIn, SpareOk};
 ghost use Rattle.arena.specs.Packed.{Packed};
 ghost use Rattle.seqs.specs.Seqs.{Says};
 
-use bits::Found;
+use edit::{Member, Nested, Refusal};
+use linked_list::Lists;
+
+// The most entries of an ordered list.
+const MOST_LISTED: usize = 64;
+
+// A table of which so many were born gives no more numbers.
+const LAST_NUMBER: usize = 4294967295;
+
+// What lives in a store.
+#[derive(Clone, Copy, PartialEq, Eq)]
+pub enum Kind {
+    Operation,
+    Block,
+    Region,
+    Value,
+    Use,
+}
+
+impl From<Nested> for Kind {
+    ghost from_gives = { IsNested };
+
+    fn from(n: Nested) -> Kind {
+        match n {
+            Nested::Operation => Kind::Operation,
+            Nested::Block => Kind::Block,
+            Nested::Region => Kind::Region,
+        }
+    }
+}
+
+impl From<Member> for Kind {
+    ghost from_gives = { IsMember };
+
+    fn from(w: Member) -> Kind {
+        match w {
+            Member::Operation => Kind::Operation,
+            Member::Block => Kind::Block,
+        }
+    }
+}
+
+// The families of lists: the uses in the slots of operations, the uses of definitions, results and arguments, the regions of
+// operations, the operations of blocks, the blocks of regions.
+#[derive(Clone, Copy, PartialEq, Eq)]
+pub enum Family {
+    Slots,
+    UseSets,
+    Values,
+    Regions,
+    Operations,
+    Blocks,
+}
+
+impl From<Member> for Family {
+    ghost from_gives = { IsMemberFamily };
+
+    fn from(w: Member) -> Family {
+        match w {
+            Member::Operation => Family::Operations,
+            Member::Block => Family::Blocks,
+        }
+    }
+}
+
+impl From<Nested> for Family {
+    ghost from_gives = { IsInnerFamily };
+
+    // The family of what lies in a thing.
+    fn from(n: Nested) -> Family {
+        match n {
+            Nested::Operation => Family::Regions,
+            Nested::Block => Family::Operations,
+            Nested::Region => Family::Blocks,
+        }
+    }
+}
 
 // The capacities of the five tables.
 #[repr(C)]
@@ -32,12 +112,20 @@ pub struct Layout {
     pub uses: usize,
 }
 
-// Where a part stands: a family, with its numbers of containers and of nodes; or a table, with its capacity and its size.
+// Where a table stands, up to its end, and how many places it has.
+#[derive(Clone, Copy)]
+pub struct Table {
+    pub at: usize,
+    pub end: usize,
+    pub places: usize,
+}
+
+// Where a family of lists stands, up to its end, and its sizes.
 #[derive(Clone, Copy)]
 pub struct Span {
     pub at: usize,
-    pub nc: usize,
-    pub nn: usize,
+    pub end: usize,
+    pub lists: Lists,
 }
 
 // The numbers of a table of capacity `n`.
@@ -56,39 +144,34 @@ fn half_size(n: usize) -> usize
     1 + n + (n + 63) / 64
 }
 
-// The part that starts at `at`.
-fn part_at(at: usize, nc: usize, nn: usize) -> Span
-    ensures { (result.at ≡ at) × ((result.nc ≡ nc) × (result.nn ≡ nn)) }
+// The table of `n` places that starts at `at`.
+fn table_at(at: usize, n: usize) -> Table
+    requires { (at ≤ 600000) × (n ≤ 16384) }
+    ensures { TableAt at n result }
 {
-    Span {
-        at: at,
-        nc: nc,
-        nn: nn,
+    Table {
+        at,
+        end: at + arena_size(n),
+        places: n,
     }
 }
 
-// Where the table of a kind stands: operations, blocks, regions, values, uses. A size is worked out only where it is needed.
-pub fn table_span(l: Layout, k: usize) -> Span
+// Where the table of a kind stands.
+pub fn table_span(l: Layout, k: Kind) -> Table
     requires { Caps l }
     ensures { RoomOf l (kind_of k) result }
 {
-    if k == 0 {
-        return part_at(5, l.ops, arena_size(l.ops));
+    let ops = half_size(l.ops);
+    let blocks = half_size(l.blocks);
+    let regions = half_size(l.regions);
+    let values = half_size(l.values);
+    match k {
+        Kind::Operation => table_at(5, l.ops),
+        Kind::Block => table_at(5 + 2 * ops, l.blocks),
+        Kind::Region => table_at(5 + 2 * (ops + blocks), l.regions),
+        Kind::Value => table_at(5 + 2 * (ops + blocks + regions), l.values),
+        Kind::Use => table_at(5 + 2 * (ops + blocks + regions + values), l.uses),
     }
-    let a = half_size(l.ops);
-    if k == 1 {
-        return part_at(5 + 2 * a, l.blocks, arena_size(l.blocks));
-    }
-    let b = a + half_size(l.blocks);
-    if k == 2 {
-        return part_at(5 + 2 * b, l.regions, arena_size(l.regions));
-    }
-    let c = b + half_size(l.regions);
-    if k == 3 {
-        return part_at(5 + 2 * c, l.values, arena_size(l.values));
-    }
-    let d = c + half_size(l.values);
-    part_at(5 + 2 * d, l.uses, arena_size(l.uses))
 }
 
 // Where the families start: past the header and the five tables.
@@ -104,249 +187,229 @@ fn families_at(l: Layout) -> usize
     5 + 2 * (a + b + r + v + u)
 }
 
-// Where a family stands: slots, use sets, values, regions, operations in blocks, blocks in regions.
-pub fn family_span(l: Layout, f: usize) -> Span
+// The family of nc lists and nn nodes that starts at `at`.
+fn family_at(at: usize, nc: usize, nn: usize) -> Span
+    requires small { at ≤ 600000 }
+    requires sizes { Sizes nc nn }
+    ensures { FamilyAt at nc nn result }
+{
+    Span {
+        at,
+        end: at + 2 * nc + 3 * nn,
+        lists: Lists { nc, nn },
+    }
+}
+
+// Where a family stands: each starts where the one before it ends.
+pub fn family_span(l: Layout, f: Family) -> Span
     requires { Caps l }
     ensures { SpanOf l (fam_of f) result }
 {
     let a = families_at(l);
-    if f == 0 {
-        return part_at(a, 2 * l.ops, l.uses);
+    let slots = 4 * l.ops + 3 * l.uses;
+    let use_sets = 2 * (l.values + l.blocks) + 3 * l.uses;
+    let values = 2 * (l.ops + l.blocks) + 3 * l.values;
+    let regions = 2 * l.ops + 3 * l.regions;
+    let operations = 2 * l.blocks + 3 * l.ops;
+    match f {
+        Family::Slots => family_at(a, 2 * l.ops, l.uses),
+        Family::UseSets => family_at(a + slots, l.values + l.blocks, l.uses),
+        Family::Values => family_at(a + slots + use_sets, l.ops + l.blocks, l.values),
+        Family::Regions => family_at(a + slots + use_sets + values, l.ops, l.regions),
+        Family::Operations => family_at(a + slots + use_sets + values + regions, l.blocks, l.ops),
+        Family::Blocks => {
+            let b = a + slots + use_sets + values + regions + operations;
+            family_at(b, l.regions, l.blocks)
+        }
     }
-    let b = a + 2 * (2 * l.ops) + 3 * l.uses;
-    if f == 1 {
-        return part_at(b, l.values + l.blocks, l.uses);
-    }
-    let c = b + 2 * (l.values + l.blocks) + 3 * l.uses;
-    if f == 2 {
-        return part_at(c, l.ops + l.blocks, l.values);
-    }
-    let d = c + 2 * (l.ops + l.blocks) + 3 * l.values;
-    if f == 3 {
-        return part_at(d, l.ops, l.regions);
-    }
-    let e = d + 2 * l.ops + 3 * l.regions;
-    if f == 4 {
-        return part_at(e, l.blocks, l.ops);
-    }
-    part_at(e + 2 * l.blocks + 3 * l.ops, l.regions, l.blocks)
 }
 
 // A thing of the kind `k` is born at the lowest free place.
-pub fn bear(m: &mut [u32], l: Layout, k: usize) -> usize
+pub fn bear(m: &mut [u32], l: Layout, k: Kind) -> usize
     requires well { Well l m.old }
     requires room_for { RoomFor (state_of l m.old) (kind_of k) (cap_of l (kind_of k)) }
     ensures { Borne l (kind_of k) m.old m.new result }
 {
-    let s = table_span(l, k);
-    let a = s.at;
-    let n = s.nc;
-    let e = a + s.nn;
-    arena::birth(&mut m[a..e], n)
+    let t = table_span(l, k);
+    arena::birth(&mut m[t.at..t.end], t.places)
 }
 
 // The thing of the kind `k` at the place `p`, whose flags or type are 0, ends.
-pub fn finish(m: &mut [u32], l: Layout, k: usize, p: usize)
+pub fn finish(m: &mut [u32], l: Layout, k: Kind, p: usize)
     requires well { Well l m.old }
     requires live { Live (state_of l m.old) (kind_of k, p) }
     requires p_value { (state_of l m.old).tag (kind_of k, p) ≡ 0 }
     ensures { Finished l (kind_of k) p m.old m.new }
 {
-    let s = table_span(l, k);
-    let a = s.at;
-    let n = s.nc;
-    let e = a + s.nn;
-    arena::end(&mut m[a..e], n, p);
+    let t = table_span(l, k);
+    arena::end(&mut m[t.at..t.end], t.places, p);
 }
 
 // The place of the live thing of the kind `k` with this number.
-pub fn find(m: &[u32], l: Layout, k: usize, number: u32) -> Found
+pub fn find(m: &[u32], l: Layout, k: Kind, number: u32) -> Option<usize>
     requires { Well l m.now }
     ensures { Finds (state_of l m.now) (kind_of k) number result }
 {
-    let s = table_span(l, k);
-    let a = s.at;
-    let n = s.nc;
-    let e = a + s.nn;
-    arena::find(&m[a..e], n, number)
+    let t = table_span(l, k);
+    arena::find(&m[t.at..t.end], t.places, number)
 }
 
-// What is stored for the list of the family `f` that the node `n` stands in: its number + 1, and 0 for none.
-pub fn home_of(m: &[u32], l: Layout, f: usize, n: usize) -> usize
+// The refusal where no live thing of the kind `k` has the number.
+pub fn missing(k: Kind) -> Refusal
+    ensures { number_of result ≡ missing_code (kind_of k) }
+{
+    match k {
+        Kind::Operation => Refusal::NoOperation,
+        Kind::Block => Refusal::NoBlock,
+        Kind::Region => Refusal::NoRegion,
+        Kind::Value => Refusal::NoValue,
+        Kind::Use => Refusal::NoUse,
+    }
+}
+
+// The same place, or the refusal.
+pub fn look_up(m: &[u32], l: Layout, k: Kind, number: u32) -> Result<usize, Refusal>
+    requires { Well l m.now }
+    ensures { LooksUp (state_of l m.now) (kind_of k) number result }
+{
+    find(m, l, k, number).ok_or(missing(k))
+}
+
+// The list of the family `f` that the node `n` stands in.
+pub fn home_of(m: &[u32], l: Layout, f: Family, n: usize) -> Option<usize>
     requires well { Well l m.now }
     requires n_bound { n < nn_of l (fam_of f) }
     ensures { HomeIs l (fam_of f) n m.now result }
 {
     let s = family_span(l, f);
-    let a = s.at;
-    let nc = s.nc;
-    let nn = s.nn;
-    let e = a + 2 * nc + 3 * nn;
-    linked_list::get_home(&m[a..e], nc, nn, n)
+    s.lists.get_home(&m[s.at..s.end], n)
 }
 
 // How long the list `k` of the family `f` is.
-pub fn row_length(m: &[u32], l: Layout, f: usize, k: usize) -> usize
+pub fn row_length(m: &[u32], l: Layout, f: Family, k: usize) -> usize
     requires well { Well l m.now }
     requires k_bound { k < nc_of l (fam_of f) }
     ensures { LengthIs l (fam_of f) k m.now result }
 {
     let s = family_span(l, f);
-    let a = s.at;
-    let nc = s.nc;
-    let nn = s.nn;
-    let e = a + 2 * nc + 3 * nn;
-    linked_list::count(&m[a..e], nc, nn, k)
+    s.lists.count(&m[s.at..s.end], k)
 }
 
-// What stands for the first of the list `k` of the family `f`: its place + 1, and 0 for none.
-pub fn first_of(m: &[u32], l: Layout, f: usize, k: usize) -> usize
+// The place of the first of the list `k` of the family `f`.
+pub fn first_of(m: &[u32], l: Layout, f: Family, k: usize) -> Option<usize>
     requires well { Well l m.now }
     requires k_bound { k < nc_of l (fam_of f) }
     ensures { FirstIs l (fam_of f) k m.now result }
 {
     let s = family_span(l, f);
-    let a = s.at;
-    let nc = s.nc;
-    let nn = s.nn;
-    let e = a + 2 * nc + 3 * nn;
-    wide(linked_list::get_head(&m[a..e], nc, nn, k))
+    s.lists.get_head(&m[s.at..s.end], k)
 }
 
-// What stands for the node after `n` in its list of the family `f`: its place + 1, and 0 for none.
-pub fn next_of(m: &[u32], l: Layout, f: usize, n: usize) -> usize
+// The place of the node after `n` in its list of the family `f`.
+pub fn next_of(m: &[u32], l: Layout, f: Family, n: usize) -> Option<usize>
     requires well { Well l m.now }
     requires n_bound { n < nn_of l (fam_of f) }
     ensures { NextIs l (fam_of f) n m.now result }
 {
     let s = family_span(l, f);
-    let a = s.at;
-    let nc = s.nc;
-    let nn = s.nn;
-    let e = a + 2 * nc + 3 * nn;
-    wide(linked_list::get_next(&m[a..e], nc, nn, n))
+    s.lists.get_next(&m[s.at..s.end], n)
 }
 
-// What stands for the last of the list `k` of the family `f`: its place + 1, and 0 for none.
-pub fn last_of(m: &[u32], l: Layout, f: usize, k: usize) -> usize
+// The place of the last of the list `k` of the family `f`.
+pub fn last_of(m: &[u32], l: Layout, f: Family, k: usize) -> Option<usize>
     requires well { Well l m.now }
     requires k_bound { k < nc_of l (fam_of f) }
     ensures { LastIs l (fam_of f) k m.now result }
 {
     let s = family_span(l, f);
-    let a = s.at;
-    let nc = s.nc;
-    let nn = s.nn;
-    let e = a + 2 * nc + 3 * nn;
-    wide(linked_list::get_tail(&m[a..e], nc, nn, k))
+    s.lists.get_tail(&m[s.at..s.end], k)
 }
 
 // The place of the node at index `i` of the list `k` of the family `f`.
-pub fn nth_of(m: &[u32], l: Layout, f: usize, k: usize, i: usize) -> usize
+pub fn nth_of(m: &[u32], l: Layout, f: Family, k: usize, i: usize) -> usize
     requires well { Well l m.now }
     requires k_bound { k < nc_of l (fam_of f) }
     requires i_in_bounds { i < length (list_of l m.now (con l (fam_of f) k)) }
     ensures { NthIs l (fam_of f) k i m.now result }
 {
     let s = family_span(l, f);
-    let a = s.at;
-    let nc = s.nc;
-    let nn = s.nn;
-    let e = a + 2 * nc + 3 * nn;
-    linked_list::nth(&m[a..e], nc, nn, k, i)
+    s.lists.nth(&m[s.at..s.end], k, i)
 }
 
-// Whether a place and a number are left: 0, or the refusal.
-pub fn room_for(m: &[u32], l: Layout, k: usize) -> u32
+// Whether a place and a number are left for a birth of the kind `k`.
+pub fn room_for(m: &[u32], l: Layout, k: Kind) -> Result<(), Refusal>
     requires { Well l m.now }
     ensures { RoomIs l (kind_of k) m.now result }
 {
-    let s = table_span(l, k);
-    let a = s.at;
-    let n = s.nc;
-    let e = a + s.nn;
-    let x = arena::taken(&m[a..e], n);
-    if x >= n {
-        return 20;
+    let t = table_span(l, k);
+    let s = &m[t.at..t.end];
+    if arena::taken(s, t.places) >= t.places {
+        return Err(Refusal::NoPlace);
     }
-    let y = arena::upcoming(&m[a..e], n);
-    if y >= 4294967295 {
-        return 21;
+    if arena::upcoming(s, t.places) >= LAST_NUMBER {
+        return Err(Refusal::NoNumber);
     }
-    0
+    Ok(())
 }
 
-// Whether a list of `n` things of the kind `k` can grow at index `i`: 0, or the refusal.
-pub fn grow_code(m: &[u32], l: Layout, k: usize, n: usize, i: usize) -> u32
+// Whether a list of `n` things of the kind `k` can grow at index `i`.
+pub fn may_grow(m: &[u32], l: Layout, k: Kind, n: usize, i: usize) -> Result<(), Refusal>
     requires { Well l m.now }
     ensures { GrowIs l (kind_of k) n i m.now result }
 {
     if n < i {
-        return 12;
+        return Err(Refusal::NoIndex);
     }
-    if n >= 64 {
-        return 19;
+    if n >= MOST_LISTED {
+        return Err(Refusal::ListFull);
     }
     room_for(m, l, k)
 }
 
 // The birth number of the live thing of the kind `k` at the place `p`.
-pub fn number_of(m: &[u32], l: Layout, k: usize, p: usize) -> u32
+pub fn number_of(m: &[u32], l: Layout, k: Kind, p: usize) -> u32
     requires well { Well l m.now }
     requires live { Live (state_of l m.now) (kind_of k, p) }
     ensures { NumberIs l (kind_of k) p m.now result }
 {
-    let s = table_span(l, k);
-    let a = s.at;
-    let n = s.nc;
-    let e = a + s.nn;
-    arena::number_at(&m[a..e], n, p) as u32
+    let t = table_span(l, k);
+    arena::number_at(&m[t.at..t.end], t.places, p) as u32
 }
 
 // How many things of the kind `k` live.
-pub fn live_count(m: &[u32], l: Layout, k: usize) -> usize
+pub fn live_count(m: &[u32], l: Layout, k: Kind) -> usize
     requires { Well l m.now }
     ensures { LiveIs l (kind_of k) m.now result }
 {
-    let s = table_span(l, k);
-    let a = s.at;
-    let n = s.nc;
-    let e = a + s.nn;
-    arena::taken(&m[a..e], n)
+    let t = table_span(l, k);
+    arena::taken(&m[t.at..t.end], t.places)
 }
 
 // The number of the next birth of the kind `k`.
-pub fn next_number(m: &[u32], l: Layout, k: usize) -> u32
+pub fn next_number(m: &[u32], l: Layout, k: Kind) -> u32
     requires { Well l m.now }
     ensures { NextNumberIs l (kind_of k) m.now result }
 {
-    let s = table_span(l, k);
-    let a = s.at;
-    let n = s.nc;
-    let e = a + s.nn;
-    arena::upcoming(&m[a..e], n) as u32
+    let t = table_span(l, k);
+    arena::upcoming(&m[t.at..t.end], t.places) as u32
 }
 
 // The place of the `i`-th live thing of the kind `k`, in rising number.
-pub fn nth_live(m: &[u32], l: Layout, k: usize, i: usize) -> usize
+pub fn nth_live(m: &[u32], l: Layout, k: Kind, i: usize) -> usize
     requires well { Well l m.now }
     requires i_in_bounds { i < length ((state_of l m.now).tab (kind_of k)).order }
     ensures { NthLiveIs l (kind_of k) i m.now result }
 {
-    let s = table_span(l, k);
-    let a = s.at;
-    let n = s.nc;
-    let e = a + s.nn;
-    arena::nth_live(&m[a..e], n, i)
+    let t = table_span(l, k);
+    arena::nth_live(&m[t.at..t.end], t.places, i)
 }
 
-// Where the flags start.
+// Where the flags start: past the last family.
 pub fn flags_at(l: Layout) -> usize
     requires { Caps l }
     ensures { TagsAt l op result }
 {
-    let s = family_span(l, 5);
-    s.at + 2 * s.nc + 3 * s.nn
+    family_span(l, Family::Blocks).end
 }
 
 // Where the types start.
@@ -354,28 +417,7 @@ fn types_at(l: Layout) -> usize
     requires { Caps l }
     ensures { TagsAt l val result }
 {
-    let s = family_span(l, 5);
-    s.at + 2 * s.nc + 3 * s.nn + l.ops
-}
-
-fn wide(x: u32) -> usize
-    ensures { result ≡ x }
-{
-    x as usize
-}
-
-fn put_cell(s: &mut [u32], i: usize, v: u32)
-    requires { i < length s.old }
-    ensures { s.new ≡ set s.old i v }
-{
-    s[i] = v;
-}
-
-fn get_cell(s: &[u32], i: usize) -> u32
-    requires { i < length s.now }
-    ensures { result ≡ get_or s.now i 0 }
-{
-    s[i]
+    flags_at(l) + l.ops
 }
 
 // The words of a store.
@@ -383,20 +425,7 @@ pub fn size(l: Layout) -> usize
     requires { Caps l }
     ensures { TotalIs l result }
 {
-    let a = flags_at(l);
-    a + l.ops + l.values
-}
-
-// The first `n` numbers become 0.
-fn clear(m: &mut [u32], n: usize)
-    requires { n ≤ length m.old }
-    ensures { Zeroed n m.old m.new }
-{
-    let mut i = 0;
-    while i < n {
-        m[i] = 0;
-        i += 1;
-    }
+    types_at(l) + l.values
 }
 
 // An empty store, in a memory that has room for it.
@@ -406,7 +435,7 @@ fn set_up(m: &mut [u32], l: Layout)
     ensures { Started l m.old m.new }
 {
     let n = size(l);
-    clear(m, n);
+    m[..n].fill(0);
     m[0] = l.ops as u32;
     m[1] = l.blocks as u32;
     m[2] = l.regions as u32;
@@ -414,32 +443,24 @@ fn set_up(m: &mut [u32], l: Layout)
     m[4] = l.uses as u32;
 }
 
-// Starts an empty store: 0, or 5 where a capacity is 0 or over its limit, or the memory is too short.
+// Starts an empty store, but where a capacity is 0 or over its limit, or the memory is too short.
 // A refusal keeps the memory, and the words past the store are never written.
-pub fn start(m: &mut [u32], l: Layout) -> u32
+pub fn start(m: &mut [u32], l: Layout) -> Result<(), Refusal>
     ensures { StartIs l m.old m.new result }
 {
-    let c = caps_ok(l);
-    if !c {
-        return 5;
-    }
-    let n = size(l);
+    let n = words_needed(l).ok_or(Refusal::Capacity)?;
     if m.len() < n {
-        return 5;
+        return Err(Refusal::Capacity);
     }
     set_up(m, l);
-    0
+    Ok(())
 }
 
-// How many words a store with these capacities needs; 0 where a capacity is 0 or over its limit.
-pub fn words_needed(l: Layout) -> usize
+// How many words a store with these capacities needs; none where a capacity is 0 or over its limit.
+pub fn words_needed(l: Layout) -> Option<usize>
     ensures { WordsNeeded l result }
 {
-    let c = caps_ok(l);
-    if !c {
-        return 0;
-    }
-    size(l)
+    if caps_ok(l) { Some(size(l)) } else { None }
 }
 
 // The capacities that stand in the header.
@@ -447,80 +468,49 @@ pub fn layout_of(m: &[u32]) -> Layout
     requires { 5 ≤ length m.now }
     ensures { Headed result m.now }
 {
-    let o = wide(m[0]);
-    let b = wide(m[1]);
-    let r = wide(m[2]);
-    let v = wide(m[3]);
-    let u = wide(m[4]);
     Layout {
-        ops: o,
-        blocks: b,
-        regions: r,
-        values: v,
-        uses: u,
+        ops: m[0] as usize,
+        blocks: m[1] as usize,
+        regions: m[2] as usize,
+        values: m[3] as usize,
+        uses: m[4] as usize,
     }
+}
+
+// Whether a capacity is some and keeps its limit.
+fn within(n: usize, limit: usize) -> bool
+    ensures { Says result ((0 < n) × (n ≤ limit)) }
+{
+    0 < n && n <= limit
 }
 
 // Whether the capacities are some and keep their limits.
 pub fn caps_ok(l: Layout) -> bool
     ensures { Says result (Caps l) }
 {
-    if l.ops > 4096 {
-        return false;
-    }
-    if l.blocks > 1024 {
-        return false;
-    }
-    if l.regions > 1024 {
-        return false;
-    }
-    if l.values > 8192 {
-        return false;
-    }
-    if l.uses > 16384 {
-        return false;
-    }
-    if l.ops == 0 {
-        return false;
-    }
-    if l.blocks == 0 {
-        return false;
-    }
-    if l.regions == 0 {
-        return false;
-    }
-    if l.values == 0 {
-        return false;
-    }
-    if l.uses == 0 {
-        return false;
-    }
-    true
+    within(l.ops, 4096)
+        && within(l.blocks, 1024)
+        && within(l.regions, 1024)
+        && within(l.values, 8192)
+        && within(l.uses, 16384)
 }
 
-fn table_ok(m: &[u32], l: Layout, k: usize) -> bool
+fn table_ok(m: &[u32], l: Layout, k: Kind) -> bool
     requires caps { Caps l }
     requires fits { Fits l m.now }
     ensures { Says result (TableOk l m.now (kind_of k)) }
 {
-    let s = table_span(l, k);
-    let a = s.at;
-    let n = s.nc;
-    let e = a + s.nn;
-    arena::check(&m[a..e], n)
+    let t = table_span(l, k);
+    arena::check(&m[t.at..t.end], t.places)
 }
 
-fn family_ok(m: &[u32], l: Layout, f: usize) -> bool
+fn family_ok(m: &[u32], l: Layout, f: Family) -> bool
     requires caps { Caps l }
     requires fits { Fits l m.now }
     ensures { Says result (FamilyOk l m.now (fam_of f)) }
 {
     let s = family_span(l, f);
-    let a = s.at;
-    let nc = s.nc;
-    let nn = s.nn;
-    let e = a + 2 * nc + 3 * nn;
-    linked_list::check_links(&m[a..e], nc, nn)
+    s.lists.check_links(&m[s.at..s.end])
 }
 
 fn tables_ok(m: &[u32], l: Layout) -> bool
@@ -528,15 +518,11 @@ fn tables_ok(m: &[u32], l: Layout) -> bool
     requires fits { Fits l m.now }
     ensures { Says result (TablesOk l m.now) }
 {
-    let mut k = 0;
-    while k < 5 {
-        let g = table_ok(m, l, k);
-        if !g {
-            return false;
-        }
-        k += 1;
-    }
-    true
+    table_ok(m, l, Kind::Operation)
+        && table_ok(m, l, Kind::Block)
+        && table_ok(m, l, Kind::Region)
+        && table_ok(m, l, Kind::Value)
+        && table_ok(m, l, Kind::Use)
 }
 
 fn families_ok(m: &[u32], l: Layout) -> bool
@@ -544,15 +530,12 @@ fn families_ok(m: &[u32], l: Layout) -> bool
     requires fits { Fits l m.now }
     ensures { Says result (FamiliesOk l m.now) }
 {
-    let mut f = 0;
-    while f < 6 {
-        let g = family_ok(m, l, f);
-        if !g {
-            return false;
-        }
-        f += 1;
-    }
-    true
+    family_ok(m, l, Family::Slots)
+        && family_ok(m, l, Family::UseSets)
+        && family_ok(m, l, Family::Values)
+        && family_ok(m, l, Family::Regions)
+        && family_ok(m, l, Family::Operations)
+        && family_ok(m, l, Family::Blocks)
 }
 
 // Whether the place `p` of the table `t` lives, or has a 0 among the tags `s`.
@@ -560,14 +543,7 @@ fn place_spare(t: &[u32], s: &[u32], n: usize, p: usize) -> bool
     requires { Packed n t.now × ((length s.now ≡ n) × (p < n)) }
     ensures { Says result (SpareAt n t.now s.now p) }
 {
-    let g = arena::is_live(t, n, p);
-    if g {
-        return true;
-    }
-    if s[p] != 0 {
-        return false;
-    }
-    true
+    arena::is_live(t, n, p) || s[p] == 0
 }
 
 // Whether every free place of the table `t` has a 0 among the tags `s`.
@@ -575,44 +551,25 @@ fn places_spare(t: &[u32], s: &[u32], n: usize) -> bool
     requires { Packed n t.now × (length s.now ≡ n) }
     ensures { Says result (SpareIn n t.now s.now) }
 {
-    let mut p = 0;
-    while p < n {
-        let g = place_spare(t, s, n, p);
-        if !g {
+    for p in 0..n {
+        if !place_spare(t, s, n, p) {
             return false;
         }
-        p += 1;
     }
     true
 }
 
-// Where the flags of operations, or the types of values, start.
-fn tags_at(l: Layout, k: usize) -> usize
-    requires caps { Caps l }
-    requires has_tag { HasTag (kind_of k) }
-    ensures { TagsAt l (kind_of k) result }
-{
-    if k == 0 {
-        return flags_at(l);
-    }
-    types_at(l)
-}
-
-// Whether the free places of the kind `k` have no flags, or no type.
-fn spare_ok(m: &[u32], l: Layout, k: usize) -> bool
+// Whether the free places of the kind `k` have a 0 among the tags that start at `at`.
+fn spare_ok(m: &[u32], l: Layout, k: Kind, at: usize) -> bool
     requires caps { Caps l }
     requires fits { Fits l m.now }
     requires has_tag { HasTag (kind_of k) }
+    requires tags_at { TagsAt l (kind_of k) at }
     requires table_ok { TableOk l m.now (kind_of k) }
     ensures { Says result (SpareOk l m.now (kind_of k)) }
 {
-    let s = table_span(l, k);
-    let a = s.at;
-    let n = s.nc;
-    let e = a + s.nn;
-    let b = tags_at(l, k);
-    let d = b + n;
-    places_spare(&m[a..e], &m[b..d], n)
+    let t = table_span(l, k);
+    places_spare(&m[t.at..t.end], &m[at..at + t.places], t.places)
 }
 
 // Whether each part is well formed: of a memory of any contents, with the capacities of its header.
@@ -620,29 +577,12 @@ pub fn check_parts(m: &[u32], l: Layout) -> bool
     requires { Headed l m.now }
     ensures { Says result (Well l m.now) }
 {
-    let c = caps_ok(l);
-    if !c {
+    let Some(n) = words_needed(l) else {
         return false;
-    }
-    let n = size(l);
-    if m.len() < n {
-        return false;
-    }
-    let t = tables_ok(m, l);
-    if !t {
-        return false;
-    }
-    let f = families_ok(m, l);
-    if !f {
-        return false;
-    }
-    let a = spare_ok(m, l, 0);
-    if !a {
-        return false;
-    }
-    let b = spare_ok(m, l, 3);
-    if !b {
-        return false;
-    }
-    true
+    };
+    n <= m.len()
+        && tables_ok(m, l)
+        && families_ok(m, l)
+        && spare_ok(m, l, Kind::Operation, flags_at(l))
+        && spare_ok(m, l, Kind::Value, types_at(l))
 }

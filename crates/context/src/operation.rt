@@ -8,7 +8,7 @@ ghost use Rattle.context.specs.Steps.{BorneOp, DroppedAll, CanEnd, Ended};
 
 use super::lists::detach;
 use super::value::end_use;
-use super::{Layout, bear, finish, first_of, flags_at, get_cell, put_cell};
+use super::{Family, Kind, Layout, bear, finish, first_of, flags_at};
 
 // The operation at the place `p` gets the flags `v`; at a free place they are 0.
 pub fn put_flags(m: &mut [u32], l: Layout, p: usize, v: u32)
@@ -17,9 +17,7 @@ pub fn put_flags(m: &mut [u32], l: Layout, p: usize, v: u32)
     requires may_tag { MayTag (state_of l m.old) (op, p) v }
     ensures { Tagged l (op, p) v m.old m.new }
 {
-    let a = flags_at(l);
-    let e = a + l.ops;
-    put_cell(&mut m[a..e], p, v);
+    m[flags_at(l) + p] = v;
 }
 
 // The flags of the operation at the place `p`.
@@ -28,9 +26,7 @@ pub fn flags_of(m: &[u32], l: Layout, p: usize) -> u32
     requires p_lt_ops { p < l.ops }
     ensures { TagIs l (op, p) m.now result }
 {
-    let a = flags_at(l);
-    let e = a + l.ops;
-    get_cell(&m[a..e], p)
+    m[flags_at(l) + p]
 }
 
 // An operation is born, in no block and with empty lists.
@@ -40,7 +36,7 @@ pub fn birth_op(m: &mut [u32], l: Layout, flags: u32) -> usize
     requires flags_bound { flags ≤ 3 }
     ensures { BorneOp l flags m.old m.new result }
 {
-    let p = bear(m, l, 0);
+    let p = bear(m, l, Kind::Operation);
     put_flags(m, l, p, flags);
     p
 }
@@ -51,9 +47,9 @@ pub fn end_operation(m: &mut [u32], l: Layout, o: usize)
     requires can_end { CanEnd (state_of l m.old) (op, o) }
     ensures { Ended l (op, o) m.old m.new }
 {
-    detach(m, l, 4, o);
+    detach(m, l, Family::Operations, o);
     put_flags(m, l, o, 0);
-    finish(m, l, 0, o);
+    finish(m, l, Kind::Operation, o);
 }
 
 // All uses of the list `s` of the slots end: how many.
@@ -62,11 +58,9 @@ pub fn drop_slots(m: &mut [u32], l: Layout, s: usize) -> usize
     requires s_bound { s < nc_of l slots }
     ensures { DroppedAll l s m.old m.new result }
 {
-    let mut k = first_of(m, l, 0, s);
-    let mut n: usize = 0;
-    while k != 0 {
-        end_use(m, l, k - 1);
-        k = first_of(m, l, 0, s);
+    let mut n = 0;
+    while let Some(u) = first_of(m, l, Family::Slots, s) {
+        end_use(m, l, u);
         n += 1;
     }
     n

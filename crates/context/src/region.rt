@@ -4,7 +4,7 @@ ghost use Rattle.context.specs.Memory.{state_of, SoundStore};
 ghost use Rattle.context.specs.Steps.{CanHold, BorneRegion, CanEnd, Ended, SwappedOut, CanMoveRegion, MovedRegion};
 
 use super::lists::{detach, enter_back, enter_before, leave};
-use super::{Layout, bear, finish, home_of, last_of};
+use super::{Family, Kind, Layout, bear, finish, home_of, last_of};
 
 // A region is born, last in the operation at the place `o`.
 pub fn birth_region(m: &mut [u32], l: Layout, o: usize) -> usize
@@ -12,8 +12,8 @@ pub fn birth_region(m: &mut [u32], l: Layout, o: usize) -> usize
     requires can_hold { CanHold (state_of l m.old) o l.regions }
     ensures { BorneRegion l o m.old m.new result }
 {
-    let p = bear(m, l, 2);
-    enter_back(m, l, 3, o, p);
+    let p = bear(m, l, Kind::Region);
+    enter_back(m, l, Family::Regions, o, p);
     p
 }
 
@@ -23,8 +23,8 @@ pub fn end_region(m: &mut [u32], l: Layout, r: usize)
     requires can_end { CanEnd (state_of l m.old) (reg, r) }
     ensures { Ended l (reg, r) m.old m.new }
 {
-    detach(m, l, 3, r);
-    finish(m, l, 2, r);
+    detach(m, l, Family::Regions, r);
+    finish(m, l, Kind::Region, r);
 }
 
 // The region at the place `r` leaves its operation, whose last region takes the gap.
@@ -33,15 +33,13 @@ fn swap_out(m: &mut [u32], l: Layout, r: usize)
     requires live { Live (state_of l m.old) (reg, r) }
     ensures { SwappedOut l r m.old m.new }
 {
-    let h = home_of(m, l, 3, r);
-    let z = last_of(m, l, 3, h - 1);
-    if z == r + 1 {
-        leave(m, l, 3, r);
-        return;
+    let o = home_of(m, l, Family::Regions, r).unwrap();
+    let last = last_of(m, l, Family::Regions, o).unwrap();
+    if last != r {
+        leave(m, l, Family::Regions, last);
+        enter_before(m, l, Family::Regions, r, last);
     }
-    leave(m, l, 3, z - 1);
-    enter_before(m, l, 3, r, z - 1);
-    leave(m, l, 3, r);
+    leave(m, l, Family::Regions, r);
 }
 
 // The region at the place `r` moves to the operation at `o`, last; the last region of the old one takes the gap.
@@ -51,5 +49,5 @@ pub fn move_region(m: &mut [u32], l: Layout, r: usize, o: usize)
     ensures { MovedRegion l r o m.old m.new }
 {
     swap_out(m, l, r);
-    enter_back(m, l, 3, o, r);
+    enter_back(m, l, Family::Regions, o, r);
 }

@@ -1,14 +1,13 @@
 // Values and uses, after value.rs of pliron 0.20.0 (Apache-2.0): birth, end, type; a use stands in a list of the slots and in one use set.
 ghost use Rattle.std.specs.Prelude.{◌≡◌, ◌<◌};
 ghost use Rattle.places.specs.Store.{Live, val, usg, vals, use_sets, slots};
-ghost use Rattle.places.specs.Roles.{missing_code, def_kind, slot_by};
 ghost use Rattle.context.specs.Layout.{nc_of};
 ghost use Rattle.context.specs.Memory.{con, state_of, Well, SoundStore, MayTag, Tagged};
 ghost use Rattle.context.specs.Reading.{TagIs, UserIs};
 ghost use Rattle.context.specs.Steps.{CanMove, Moved, EndedUse, CanBear, BorneUse, Unused, EndedValue, CanBearValue, BorneValue};
 
 use super::lists::{enter_at, enter_back, leave};
-use super::{Layout, bear, finish, get_cell, home_of, put_cell, types_at};
+use super::{Family, Kind, Layout, bear, finish, home_of, types_at};
 
 // The value at the place `p` gets the type `v`; at a free place it is 0.
 pub fn put_type(m: &mut [u32], l: Layout, p: usize, v: u32)
@@ -17,9 +16,7 @@ pub fn put_type(m: &mut [u32], l: Layout, p: usize, v: u32)
     requires may_tag { MayTag (state_of l m.old) (val, p) v }
     ensures { Tagged l (val, p) v m.old m.new }
 {
-    let a = types_at(l);
-    let e = a + l.values;
-    put_cell(&mut m[a..e], p, v);
+    m[types_at(l) + p] = v;
 }
 
 // The type of the value at the place `p`.
@@ -28,9 +25,7 @@ pub fn type_of(m: &[u32], l: Layout, p: usize) -> u32
     requires p_lt_values { p < l.values }
     ensures { TagIs l (val, p) m.now result }
 {
-    let a = types_at(l);
-    let e = a + l.values;
-    get_cell(&m[a..e], p)
+    m[types_at(l) + p]
 }
 
 // A value of the type `t` is born at index `i` of the list `k` of results and arguments.
@@ -40,9 +35,9 @@ pub fn birth_value(m: &mut [u32], l: Layout, k: usize, i: usize, t: u32) -> usiz
     requires can_bear_value { CanBearValue (state_of l m.old) l.values (con l vals k) }
     ensures { BorneValue l k i t m.old m.new result }
 {
-    let p = bear(m, l, 3);
+    let p = bear(m, l, Kind::Value);
     put_type(m, l, p, t);
-    enter_at(m, l, 2, k, i, p);
+    enter_at(m, l, Family::Values, k, i, p);
     p
 }
 
@@ -52,9 +47,9 @@ pub fn end_value(m: &mut [u32], l: Layout, p: usize)
     requires unused { Unused (state_of l m.old) p }
     ensures { EndedValue l p m.old m.new }
 {
-    leave(m, l, 2, p);
+    leave(m, l, Family::Values, p);
     put_type(m, l, p, 0);
-    finish(m, l, 3, p);
+    finish(m, l, Kind::Value, p);
 }
 
 // A use is born at index `i` of the list `s` of the slots, held by the list `d` of the use sets.
@@ -64,9 +59,9 @@ pub fn birth_use(m: &mut [u32], l: Layout, s: usize, i: usize, d: usize) -> usiz
     requires can_bear { CanBear (state_of l m.old) l.uses (con l slots s) (con l use_sets d) }
     ensures { BorneUse l s i d m.old m.new result }
 {
-    let u = bear(m, l, 4);
-    enter_at(m, l, 0, s, i, u);
-    enter_back(m, l, 1, d, u);
+    let u = bear(m, l, Kind::Use);
+    enter_at(m, l, Family::Slots, s, i, u);
+    enter_back(m, l, Family::UseSets, d, u);
     u
 }
 
@@ -77,8 +72,8 @@ pub fn move_use(m: &mut [u32], l: Layout, u: usize, k: usize)
     requires can_move { CanMove (state_of l m.old) u (con l use_sets k) }
     ensures { Moved l u k m.old m.new }
 {
-    leave(m, l, 1, u); // out of the old definition's set
-    enter_back(m, l, 1, k, u);
+    leave(m, l, Family::UseSets, u); // out of the old definition's set
+    enter_back(m, l, Family::UseSets, k, u);
 }
 
 // The use at the place `u` ends.
@@ -87,9 +82,9 @@ pub fn end_use(m: &mut [u32], l: Layout, u: usize)
     requires live { Live (state_of l m.old) (usg, u) }
     ensures { EndedUse l u m.old m.new }
 {
-    leave(m, l, 0, u);
-    leave(m, l, 1, u);
-    finish(m, l, 4, u);
+    leave(m, l, Family::Slots, u);
+    leave(m, l, Family::UseSets, u);
+    finish(m, l, Kind::Use, u);
 }
 
 // The operation at which the use at the place `u` stands.
@@ -98,16 +93,5 @@ pub fn user_of(m: &[u32], l: Layout, u: usize) -> usize
     requires live { Live (state_of l m.now) (usg, u) }
     ensures { UserIs l u m.now result }
 {
-    let h = home_of(m, l, 0, u);
-    (h - 1) / 2
-}
-
-// The refusal where no live value (`sl` 0) or block has the number.
-pub fn missing(sl: usize) -> u32
-    ensures { result ≡ missing_code (def_kind (slot_by sl)) }
-{
-    if sl == 0 {
-        return 10;
-    }
-    8
+    home_of(m, l, Family::Slots, u).unwrap() / 2
 }

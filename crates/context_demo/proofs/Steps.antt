@@ -4,8 +4,7 @@ use mathlib.Core.List.{List}
 use native.Mathlib.Omega.{arith}
 use Prim.Native.Nat.{ℕ, ◌+◌, ◌*◌, ◌<◌}
 use lib.ListN.{length}
-use Rattle.bits.specs.declared.Found.{Found}
-use Rattle.bits.specs.declared.Found.TheVariants.{At}
+use Rattle.std.specs.Prelude.{Option, None}
 use Rattle.edit.specs.Record.{operand}
 use Rattle.places.specs.Store.{Kind, op, blk, val, usg, operands, value_uses, results, arguments, slots, use_sets, vals, ops_in, blocks_in, Thing, Con, State, Live, Clear, outer, up}
 use Rattle.places.specs.View.{num}
@@ -14,7 +13,7 @@ use Rattle.places.proofs.Rows.{mine}
 use Rattle.places.proofs.RuleUses.{slot_fits}
 use Rattle.context.specs.declared.Layout.{Layout}
 use Rattle.context.specs.Layout.{nc_of, kind_part}
-use Rattle.context.specs.Memory.{decode, con, state_of, SoundStore, RoomFor, Finds, HomeIs, LengthIs}
+use Rattle.context.specs.Memory.{given, con, state_of, SoundStore, RoomFor, HomeIs, LengthIs}
 use Rattle.context.specs.Reading.{NthIs}
 use Rattle.context.specs.Steps.{CanBear, CanLinkTo}
 use Rattle.context.proofs.Places.{place<}
@@ -22,10 +21,6 @@ use Rattle.context.proofs.Places.{place<}
 module _ {l : Layout} {m : List ℕ} (S : SoundStore l m) where
   abbrev P : State
   P = state_of l m
-
-  -- what a look-up found lives
-  pub found : (k : Kind) (x p : ℕ) (a : Found) → Finds P k x a → a ≡ At p → Live P (k, p)
-  found k x p a F e = let h : Live P (k, p) × (num P (k, p) ≡ x) = rw e at F in h.0
 
   pub results_of : (o : ℕ) → Live P (op, o) → (o < nc_of l vals) × Live P (con l vals o).1
   unfolding rows_of
@@ -58,14 +53,14 @@ module _ {l : Layout} {m : List ℕ} (S : SoundStore l m) where
   nth_lives k i u N = (S.sound.linked.link (usg, u) slots (con l slots k) N.own).live
 
   -- a block in no region lies in no operation
-  pub can_link : (o b h g : ℕ) → Live P (op, o) → Live P (blk, b) → HomeIs l ops_in o m h → h ≡ 0 → HomeIs l blocks_in b m g → g ≡ 0 → CanLinkTo P ops_in o (con l ops_in b)
+  pub can_link : (o b : ℕ) (h g : Option ℕ) → Live P (op, o) → Live P (blk, b) → HomeIs l ops_in o m h → h ≡ None → HomeIs l blocks_in b m g → g ≡ None → CanLinkTo P ops_in o (con l ops_in b)
   unfolding rows_of up
   can_link o b h g x y H e G f =
       record {
         live = x;
         home = y;
-        free = H.own ∙ ap (λ (z : ℕ). con_of (con l ops_in) (decode z)) e;
-        clear = Clear.top apart (ap outer (G.own ∙ ap (λ (z : ℕ). con_of (con l blocks_in) (decode z)) f));
+        free = H.own ∙ ap (λ (z : Option ℕ). con_of (con l ops_in) (given z)) e;
+        clear = Clear.top apart (ap outer (G.own ∙ ap (λ (z : Option ℕ). con_of (con l blocks_in) (given z)) f));
       }
     where
       apart : ◌≡◌ {A = Thing} (blk, b) (op, o) → ⊥

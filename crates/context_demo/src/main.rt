@@ -3,354 +3,278 @@
 // Prints the words of the store, part by part, its listing, and the parts that the readers hand back.
 #![tactic(auto)]
 
-ghost use Rattle.std.specs.Prelude.{◌≤◌, ◌<◌, length};
+ghost use Rattle.std.specs.Prelude.{◌<◌};
 ghost use Rattle.places.specs.Store.{vals, Live};
 ghost use Rattle.context.specs.Layout.{nc_of};
 ghost use Rattle.context.specs.Memory.{con, state_of, SoundStore};
 
-use bits::Found;
-use context::Layout;
-
-fn say(s: &[u8]) {
-    io::write_all(1, s);
-}
-
-fn number(n: u32) {
-    io::print_decimal(1, n as u64);
-}
+use context::{Family, Kind, Layout};
+use edit::{Member, Refusal};
+use readers::Definition;
+use std::io;
 
 // What a step was, and whether it was done.
-fn told(what: &[u8], done: bool) {
-    say(what);
-    if done {
-        say(b": done\n");
-    } else {
-        say(b": not done\n");
-    }
+fn told(rt: &impl Print, what: &str, done: Result<(), Refusal>) -> io::Result<()> {
+    let outcome = if done.is_ok() { "done" } else { "not done" };
+    println!(rt; "{what}: {outcome}")
 }
 
 // A block is born.
-fn new_block(m: &mut [u32], l: Layout) -> bool
+fn new_block(m: &mut [u32], l: Layout) -> Result<(), Refusal>
     requires { SoundStore l m.old }
     ensures { SoundStore l m.new }
 {
-    let c = context::room_for(m, l, 1);
-    if c != 0 {
-        return false;
-    }
+    context::room_for(m, l, Kind::Block)?;
     context::basic_block::birth_block(m, l);
-    true
+    Ok(())
 }
 
 // An operation is born.
-fn new_operation(m: &mut [u32], l: Layout) -> bool
+fn new_operation(m: &mut [u32], l: Layout) -> Result<(), Refusal>
     requires { SoundStore l m.old }
     ensures { SoundStore l m.new }
 {
-    let c = context::room_for(m, l, 0);
-    if c != 0 {
-        return false;
-    }
+    context::room_for(m, l, Kind::Operation)?;
     context::operation::birth_op(m, l, 0);
-    true
+    Ok(())
 }
 
 // A value of the type `t` is born, last in the list `k` of results and arguments.
-fn push_value(m: &mut [u32], l: Layout, k: usize, t: u32) -> bool
+fn push_value(m: &mut [u32], l: Layout, k: usize, t: u32) -> Result<(), Refusal>
     requires sound_store { SoundStore l m.old }
     requires k_bound { k < nc_of l vals }
     requires live { Live (state_of l m.old) (con l vals k).1 }
     ensures { SoundStore l m.new }
 {
-    let n = context::row_length(m, l, 2, k);
-    if n >= 64 {
-        return false;
-    }
-    let c = context::room_for(m, l, 3);
-    if c != 0 {
-        return false;
-    }
+    let n = context::row_length(m, l, Family::Values, k);
+    context::may_grow(m, l, Kind::Value, n, n)?;
     context::value::birth_value(m, l, k, n, t);
-    true
+    Ok(())
 }
 
 // The operation with the number `x` gets a result of the type `t`.
-fn push_result(m: &mut [u32], l: Layout, x: u32, t: u32) -> bool
+fn push_result(m: &mut [u32], l: Layout, x: u32, t: u32) -> Result<(), Refusal>
     requires { SoundStore l m.old }
     ensures { SoundStore l m.new }
 {
-    let a = context::find(m, l, 0, x);
-    let Found::At(o) = a else {
-        return false;
-    };
+    let o = context::look_up(m, l, Kind::Operation, x)?;
     push_value(m, l, o, t)
 }
 
 // The block with the number `x` gets an argument of the type `t`.
-fn push_argument(m: &mut [u32], l: Layout, x: u32, t: u32) -> bool
+fn push_argument(m: &mut [u32], l: Layout, x: u32, t: u32) -> Result<(), Refusal>
     requires { SoundStore l m.old }
     ensures { SoundStore l m.new }
 {
-    let a = context::find(m, l, 1, x);
-    let Found::At(b) = a else {
-        return false;
-    };
+    let b = context::look_up(m, l, Kind::Block, x)?;
     push_value(m, l, l.ops + b, t)
 }
 
 // The operation with the number `x` gets an operand: a use of the value with the number `y`.
-fn push_operand(m: &mut [u32], l: Layout, x: u32, y: u32) -> bool
+fn push_operand(m: &mut [u32], l: Layout, x: u32, y: u32) -> Result<(), Refusal>
     requires { SoundStore l m.old }
     ensures { SoundStore l m.new }
 {
-    let a = context::find(m, l, 0, x);
-    let Found::At(o) = a else {
-        return false;
-    };
-    let b = context::find(m, l, 3, y);
-    let Found::At(v) = b else {
-        return false;
-    };
-    let n = context::row_length(m, l, 0, 2 * o);
-    if n >= 64 {
-        return false;
-    }
-    let c = context::room_for(m, l, 4);
-    if c != 0 {
-        return false;
-    }
+    let o = context::look_up(m, l, Kind::Operation, x)?;
+    let v = context::look_up(m, l, Kind::Value, y)?;
+    let n = context::row_length(m, l, Family::Slots, 2 * o);
+    context::may_grow(m, l, Kind::Use, n, n)?;
     context::value::birth_use(m, l, 2 * o, n, v);
-    true
+    Ok(())
 }
 
 // The operand at index `i` of the operation with the number `x` ends.
-fn end_operand(m: &mut [u32], l: Layout, x: u32, i: usize) -> bool
+fn end_operand(m: &mut [u32], l: Layout, x: u32, i: usize) -> Result<(), Refusal>
     requires { SoundStore l m.old }
     ensures { SoundStore l m.new }
 {
-    let a = context::find(m, l, 0, x);
-    let Found::At(o) = a else {
-        return false;
-    };
-    let n = context::row_length(m, l, 0, 2 * o);
-    if i >= n {
-        return false;
+    let o = context::look_up(m, l, Kind::Operation, x)?;
+    if i >= context::row_length(m, l, Family::Slots, 2 * o) {
+        return Err(Refusal::NoIndex);
     }
-    let u = context::nth_of(m, l, 0, 2 * o, i);
+    let u = context::nth_of(m, l, Family::Slots, 2 * o, i);
     context::value::end_use(m, l, u);
-    true
+    Ok(())
 }
 
 // The operation with the number `x`, which is in no block, comes last in the block with the number `y`, which is in no region: so
 // the block does not lie inside the operation.
-fn put_into(m: &mut [u32], l: Layout, x: u32, y: u32) -> bool
+fn put_into(m: &mut [u32], l: Layout, x: u32, y: u32) -> Result<(), Refusal>
     requires { SoundStore l m.old }
     ensures { SoundStore l m.new }
 {
-    let a = context::find(m, l, 0, x);
-    let Found::At(o) = a else {
-        return false;
-    };
-    let c = context::find(m, l, 1, y);
-    let Found::At(b) = c else {
-        return false;
-    };
-    let h = context::home_of(m, l, 4, o);
-    if h != 0 {
-        return false;
+    let o = context::look_up(m, l, Kind::Operation, x)?;
+    let b = context::look_up(m, l, Kind::Block, y)?;
+    if context::home_of(m, l, Family::Operations, o).is_some() {
+        return Err(Refusal::Linked);
     }
-    let g = context::home_of(m, l, 5, b);
-    if g != 0 {
-        return false;
+    if context::home_of(m, l, Family::Blocks, b).is_some() {
+        return Err(Refusal::Linked);
     }
-    context::lists::link_back(m, l, 4, b, o);
-    true
+    context::lists::link_back(m, l, Member::Operation, b, o);
+    Ok(())
 }
 
-// The words from `a` to `e`.
-fn words(m: &[u32], a: usize, e: usize)
-    requires { e ≤ length m.now }
-{
-    let mut i = a;
-    while i < e {
-        say(b" ");
-        number(m[i]);
-        i += 1;
+// Words, on one line.
+fn words(rt: &impl Print, part: &[u32]) -> io::Result<()> {
+    for w in part {
+        print!(rt; " {w}")?;
     }
-    say(b"\n");
+    println!(rt)
 }
 
 // The words of the table of a kind.
-fn table(m: &[u32], l: Layout, name: &[u8], k: usize)
+fn table(rt: &impl Print, m: &[u32], l: Layout, name: &str, k: Kind) -> io::Result<()>
     requires { SoundStore l m.now }
 {
-    say(name);
-    let s = context::table_span(l, k);
-    let a = s.at;
-    words(m, a, a + s.nn);
+    print!(rt; "{name}")?;
+    let t = context::table_span(l, k);
+    words(rt, &m[t.at..t.end])
 }
 
 // The words of a family.
-fn family(m: &[u32], l: Layout, name: &[u8], f: usize)
+fn family(rt: &impl Print, m: &[u32], l: Layout, name: &str, f: Family) -> io::Result<()>
     requires { SoundStore l m.now }
 {
-    say(name);
+    print!(rt; "{name}")?;
     let s = context::family_span(l, f);
-    let a = s.at;
-    words(m, a, a + 2 * s.nc + 3 * s.nn);
+    words(rt, &m[s.at..s.end])
 }
 
-fn print_tables(m: &[u32], l: Layout)
+fn print_tables(rt: &impl Print, m: &[u32], l: Layout) -> io::Result<()>
     requires { SoundStore l m.now }
 {
-    table(m, l, b"operations", 0);
-    table(m, l, b"blocks", 1);
-    table(m, l, b"regions", 2);
-    table(m, l, b"values", 3);
-    table(m, l, b"uses", 4);
+    table(rt, m, l, "operations", Kind::Operation)?;
+    table(rt, m, l, "blocks", Kind::Block)?;
+    table(rt, m, l, "regions", Kind::Region)?;
+    table(rt, m, l, "values", Kind::Value)?;
+    table(rt, m, l, "uses", Kind::Use)
 }
 
-fn print_families(m: &[u32], l: Layout)
+fn print_families(rt: &impl Print, m: &[u32], l: Layout) -> io::Result<()>
     requires { SoundStore l m.now }
 {
-    family(m, l, b"slots", 0);
-    family(m, l, b"use sets", 1);
-    family(m, l, b"results and arguments", 2);
-    family(m, l, b"regions of operations", 3);
-    family(m, l, b"operations of blocks", 4);
-    family(m, l, b"blocks of regions", 5);
+    family(rt, m, l, "slots", Family::Slots)?;
+    family(rt, m, l, "use sets", Family::UseSets)?;
+    family(rt, m, l, "results and arguments", Family::Values)?;
+    family(rt, m, l, "regions of operations", Family::Regions)?;
+    family(rt, m, l, "operations of blocks", Family::Operations)?;
+    family(rt, m, l, "blocks of regions", Family::Blocks)
 }
 
-fn print_tags(m: &[u32], l: Layout)
+fn print_tags(rt: &impl Print, m: &[u32], l: Layout) -> io::Result<()>
     requires { SoundStore l m.now }
 {
-    let s = context::family_span(l, 5);
-    let a = s.at;
-    let n = context::size(l);
-    say(b"flags and types");
-    words(m, a + 2 * s.nc + 3 * s.nn, n);
+    print!(rt; "flags and types")?;
+    words(rt, &m[context::flags_at(l)..context::size(l)])
 }
 
 // All words, a line for each part; flags and types are on one.
-fn print_words(m: &[u32], l: Layout)
+fn print_words(rt: &impl Print, m: &[u32], l: Layout) -> io::Result<()>
     requires { SoundStore l m.now }
 {
-    say(b"capacities");
-    words(m, 0, 5);
-    print_tables(m, l);
-    print_families(m, l);
-    print_tags(m, l);
-}
-
-// At most the buffer's length.
-fn within(out: &[u8], r: usize) -> usize
-    ensures { result ≤ length out.now }
-{
-    if r < out.len() {
-        return r;
-    }
-    out.len()
+    print!(rt; "capacities")?;
+    words(rt, &m[..5])?;
+    print_tables(rt, m, l)?;
+    print_families(rt, m, l)?;
+    print_tags(rt, m, l)
 }
 
 // The listing.
-fn print_listing(m: &[u32], l: Layout)
+fn print_listing(rt: &impl Print, m: &[u32], l: Layout) -> io::Result<()>
     requires { SoundStore l m.now }
 {
     let mut out = [0u8; 1024];
     let r = listing::write_listing(m, l, &mut out, 0);
-    let e = within(&out, r);
-    io::write_all(1, &out[..e]);
+    rt.write_all(&out[..r.min(1024)])
 }
 
 // What a reader handed back: the numbers of the uses, or its refusal.
-fn tell_uses(what: &[u8], n: u32, part: &[u32], refusal: u32) {
-    say(what);
-    number(n);
-    if refusal != 0 {
-        say(b" no ");
-        number(refusal);
-        say(b"\n");
-        return;
+fn tell_uses(
+    rt: &impl Print,
+    what: &str,
+    n: u32,
+    part: Result<&mut [u32], Refusal>,
+) -> io::Result<()> {
+    print!(rt; "{what} {n}")?;
+    match part {
+        Ok(part) => words(rt, part),
+        Err(refusal) => println!(rt; " no {}", refusal.number()),
     }
-    words(part, 0, part.len());
 }
 
 // The uses of the value with this number.
-fn print_value(m: &[u32], n: u32) {
+fn print_value(rt: &impl Print, m: &[u32], n: u32) -> io::Result<()> {
     let mut out = [0u32; 2];
-    let mut refusal: u32 = 0;
-    let part = readers::value_uses(m, n, &mut out, &mut refusal);
-    tell_uses(b"uses of value ", n, part, refusal);
+    let part = readers::front_uses(m, Definition::Value(n), &mut out);
+    tell_uses(rt, "uses of value", n, part)
 }
 
 // The same with no room for any.
-fn print_short(m: &[u32], n: u32) {
-    let mut out = [0u32; 2];
-    let mut refusal: u32 = 0;
-    let part = readers::value_uses(m, n, &mut out[..0], &mut refusal);
-    tell_uses(b"no room for uses of value ", n, part, refusal);
+fn print_short(rt: &impl Print, m: &[u32], n: u32) -> io::Result<()> {
+    let part = readers::front_uses(m, Definition::Value(n), &mut []);
+    tell_uses(rt, "no room for uses of value", n, part)
 }
 
 // The uses of the block with this number.
-fn print_block(m: &[u32], n: u32) {
+fn print_block(rt: &impl Print, m: &[u32], n: u32) -> io::Result<()> {
     let mut out = [0u32; 2];
-    let mut refusal: u32 = 0;
-    let part = readers::block_uses(m, n, &mut out, &mut refusal);
-    tell_uses(b"uses of block ", n, part, refusal);
+    let part = readers::front_uses(m, Definition::Block(n), &mut out);
+    tell_uses(rt, "uses of block", n, part)
 }
 
 // Those of both values and of the block, and each refusal.
-fn print_uses(m: &[u32]) {
-    print_value(m, 0);
-    print_value(m, 1);
-    print_value(m, 2);
-    print_short(m, 0);
-    print_block(m, 0);
-    print_block(m, 1);
+fn print_uses(rt: &impl Print, m: &[u32]) -> io::Result<()> {
+    print_value(rt, m, 0)?;
+    print_value(rt, m, 1)?;
+    print_value(rt, m, 2)?;
+    print_short(rt, m, 0)?;
+    print_block(rt, m, 0)?;
+    print_block(rt, m, 1)
 }
 
 // A block with one argument.
-fn make_block(m: &mut [u32], l: Layout)
+fn make_block(rt: &impl Print, m: &mut [u32], l: Layout) -> io::Result<()>
     requires { SoundStore l m.old }
     ensures { SoundStore l m.new }
 {
     let a = new_block(m, l);
-    told(b"new block", a);
+    told(rt, "new block", a)?;
     let b = push_argument(m, l, 0, 7);
-    told(b"argument", b);
+    told(rt, "argument", b)
 }
 
 // An operation with one result, which reads the argument twice.
-fn make_operation(m: &mut [u32], l: Layout)
+fn make_operation(rt: &impl Print, m: &mut [u32], l: Layout) -> io::Result<()>
     requires { SoundStore l m.old }
     ensures { SoundStore l m.new }
 {
     let a = new_operation(m, l);
-    told(b"new operation", a);
+    told(rt, "new operation", a)?;
     let b = push_result(m, l, 0, 7);
-    told(b"result", b);
+    told(rt, "result", b)?;
     let c = push_operand(m, l, 0, 0);
-    told(b"operand", c);
+    told(rt, "operand", c)?;
     let d = push_operand(m, l, 0, 0);
-    told(b"operand", d);
+    told(rt, "operand", d)
 }
 
 // It comes into the block; a third operand has no place; the first one ends, and its place is taken by a use of the own result.
-fn change(m: &mut [u32], l: Layout)
+fn change(rt: &impl Print, m: &mut [u32], l: Layout) -> io::Result<()>
     requires { SoundStore l m.old }
     ensures { SoundStore l m.new }
 {
     let a = put_into(m, l, 0, 0);
-    told(b"into the block", a);
+    told(rt, "into the block", a)?;
     let b = push_operand(m, l, 0, 0);
-    told(b"third operand", b);
+    told(rt, "third operand", b)?;
     let c = end_operand(m, l, 0, 0);
-    told(b"end of the first operand", c);
+    told(rt, "end of the first operand", c)?;
     let d = push_operand(m, l, 0, 1);
-    told(b"own result as operand", d);
+    told(rt, "own result as operand", d)
 }
 
-fn main() {
+fn main(rt: HostRuntime) -> io::Result<()> {
     let mut store = [0u32; 89];
     let l = Layout {
         ops: 1,
@@ -359,15 +283,13 @@ fn main() {
         values: 2,
         uses: 2,
     };
-    let c = context::start(&mut store, l);
-    if c != 0 {
-        say(b"no store\n");
-        return;
+    if context::start(&mut store, l).is_err() {
+        return println!(rt; "no store");
     }
-    make_block(&mut store, l);
-    make_operation(&mut store, l);
-    change(&mut store, l);
-    print_words(&store, l);
-    print_listing(&store, l);
-    print_uses(&store);
+    make_block(&rt, &mut store, l)?;
+    make_operation(&rt, &mut store, l)?;
+    change(&rt, &mut store, l)?;
+    print_words(&rt, &store, l)?;
+    print_listing(&rt, &store, l)?;
+    print_uses(&rt, &store)
 }

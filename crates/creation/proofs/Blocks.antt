@@ -1,6 +1,5 @@
 -- A new block: its refusal, its birth, one more argument, and the whole. Assumes nothing.
 use mathlib.Core.Path.{◌≡◌, refl, sym, ap, ◌∙◌, subst}
-use mathlib.Core.Logic.{◌≢◌}
 use mathlib.Core.List.{List, [], ◌∷◌, ◌++◌}
 use Prim.Native.Nat.{ℕ, ◌+◌, ◌≤◌, ◌<◌}
 use native.Mathlib.Omega.{arith}
@@ -8,7 +7,9 @@ use lib.ListN.{length, get_or}
 use Rattle.edit.specs.Record.{Edit, new_block, part}
 use Rattle.edit.specs.Taken.{edit_of, Passed}
 use Rattle.edit.specs.Answer.{found}
-use Rattle.edit.specs.declared.Answer.TheVariants.{Accepted, Refused}
+use Rattle.std.specs.Prelude.{Ok, Err}
+use Rattle.edit.specs.declared.Refusal.{Refusal}
+use Rattle.edit.specs.Kinds.{number_of}
 use Rattle.edit.proofs.Asked.{block_fields, part_length}
 use Rattle.edit.proofs.ByKind.{kinds}
 use Rattle.rules.specs.History.{births}
@@ -32,12 +33,11 @@ use Rattle.places.proofs.RuleBirths.{block_first, argument_turn}
 use Rattle.places.proofs.Settling.{settles_same, settles_birth, settles_enter, lowest_free}
 use Rattle.places.proofs.RuleGrown.{kept_birth, arguments_live, arguments_next, arguments_long, block_ended}
 use Rattle.context.specs.declared.Layout.{Layout}
-use Rattle.context.specs.Layout.{cap_of, nc_of}
+use Rattle.context.specs.Layout.{cap_of}
 use Rattle.context.specs.Memory.{con, state_of, parts_of, SoundStore, RoomFor}
 use Rattle.context.specs.Reading.{NextNumberIs}
 use Rattle.context.specs.Steps.{BorneBlock, CanBearValue, BorneValue}
 use Rattle.context.specs.Performed.{abs, Performed}
-use Rattle.context.proofs.Places.{place<}
 use Rattle.context.proofs.Performing.{refuses, accepts}
 use Rattle.creation.specs.Room.{five, RoomIs}
 use Rattle.creation.specs.Made.{gone, Made, BlockReady, BlockPartly}
@@ -75,8 +75,8 @@ module _ {l : Layout} {m : List ℕ} (S : SoundStore l m) (fs : List ℕ) (F : P
       ∙ ap (λ (v : ℕ). check (lacks (meaning P).capacities (live_counts (meaning P)) (five 0 1 0 v 0)) 20 (check (lacks numbers (meaning P).history.born (five 0 1 0 v 0)) 21 0)) long
       ∙ sym R.is
 
-  pub block_refused : c ≢ 0 → Performed l (edit_of 2 fs) m m (Refused c)
-  block_refused z = rw (is_block fs) (refuses E S c block_refusal z)
+  pub block_refused : (r : Refusal) → c ≡ number_of r → Performed l (edit_of 2 fs) m m (Err r)
+  block_refused r z = rw (is_block fs) (refuses E S r (block_refusal ∙ z))
 
   module _ (z : c ≡ 0) where
     pub block_ready : BlockReady l fs m
@@ -116,9 +116,6 @@ module _ {l : Layout} {m m₁ : List ℕ} (fs : List ℕ) (b j : ℕ) (A : Block
 
   abbrev M : Made l (new_block (part fs 1 j)) blk b m m₁
   M = A.made
-
-  pub inside : l.ops + b < nc_of l vals
-  inside = omega (arith, place< M.sound (blk, b) M.live)
 
   row_is : con l vals (l.ops + b) ≡ (arguments, (blk, b))
   unfolding rows_of
@@ -193,6 +190,6 @@ module _ {l : Layout} {m m' : List ℕ} (fs : List ℕ) (b : ℕ) (A : BlockPart
   unfolding meaning
   state_is = ap (λ (k : ℕ). rule_state k (state_of l m')) (block_ended A.ready.sound.sound.linked A.made.sound.sound (gone l m) (part fs 1 (get_or fs 0 0)) A.made.accepts) ∙ accept_is A.made.sound.sound K (gone l m) (gone l m) A.made.accepts
 
-  pub block_done : Performed l (edit_of 2 fs) m m' (Accepted x 0)
+  pub block_done : Performed l (edit_of 2 fs) m m' (Ok (x, 0))
   unfolding answer
   block_done = rw (is_block fs) (accepts K A.made.sound whole state_is A.made.rest A.made.places x 0 (ap (λ (n : ℕ). found n 0) (born_is A.ready.sound.sound blk ∙ sym X.is)))

@@ -1,34 +1,28 @@
 -- The definitions that a record lists: all there, or the first that is missing. Assumes nothing.
-use mathlib.Core.Path.{◌≡◌, refl, sym, ap, ◌∙◌}
-use mathlib.Core.Logic.{◌≢◌, by_cases}
+use mathlib.Core.Path.{◌≡◌, refl, sym, ap, ◌∙◌, subst}
+use mathlib.Core.Logic.{by_cases}
 use mathlib.Core.List.{List, [], ◌∷◌, ◌++◌, map}
 use Prim.Native.Nat.{ℕ, zero, suc, ◌+◌, ◌-◌, ◌≤◌, ◌<◌}
 use native.Mathlib.Decide.{ℕ_discrete}
 use native.Mathlib.Omega.{arith}
 use lib.ListN.{length, get_or}
-use Rattle.bits.specs.declared.Found.{Found}
-use Rattle.bits.specs.declared.Found.TheVariants.{At, Nothing}
-use Rattle.edit.specs.Record.{Slot, operand, successor, part}
+use Rattle.edit.specs.declared.Refusal.{Refusal}
+use Rattle.edit.specs.Kinds.{number_of}
+use Rattle.edit.specs.Record.{Slot, part}
+use Rattle.edit.proofs.Numbers.{number_of-positive}
 use Rattle.edit.proofs.Asked.{part_length, part_at}
 use Rattle.rules.specs.History.{History}
 use Rattle.rules.specs.Refusal.{Name, definition_named, missing, first_missing}
-use Rattle.places.specs.Store.{val, blk, State, Live}
+use Rattle.places.specs.Store.{Kind, State, Live}
 use Rattle.places.specs.View.{num}
 use Rattle.places.specs.Hist.{rule_state, meaning}
-use Rattle.places.specs.Roles.{Unnamed, missing_code, def_kind, slot_by}
+use Rattle.places.specs.Roles.{Unnamed, missing_code, def_kind}
 use Rattle.places.proofs.RuleRefusals.{missing_first, missing_next, definition_there, definition_missing}
 use Rattle.places.proofs.RuleAccept.{ended_of}
 use Rattle.context.specs.declared.Layout.{Layout}
-use Rattle.context.specs.Memory.{state_of, SoundStore, Finds}
+use Rattle.context.specs.Memory.{state_of, SoundStore}
 use Rattle.context.specs.Performed.{abs}
-use Rattle.context.proofs.Codes.{slot_0, slot_1}
 use Rattle.creation.specs.Made.{Named, NamesIs}
-
-pub found_value : (P : State) (sl n : ℕ) (a : Found) → sl ≡ 0 → Finds P val n a → Finds P (def_kind (slot_by sl)) n a
-found_value P sl n a e F = rw (slot_0 sl e) F
-
-pub found_block : (P : State) (sl n : ℕ) (a : Found) → sl ≢ 0 → Finds P blk n a → Finds P (def_kind (slot_by sl)) n a
-found_block P sl n a e F = rw (slot_1 sl e) F
 
 -- ---- names in a row
 
@@ -63,32 +57,28 @@ module _ {l : Layout} {m : List ℕ} (S : SoundStore l m) (sl : Slot) (fs : List
   pub names_done : (j : ℕ) → n ≤ j → Before j → NamesIs l sl fs at n m 0
   names_done j e B = record { lost = λ z. absurd (z refl); there = λ z i k. B i (omega (arith, e, k)) }
 
-  module _ (j d : ℕ) (j< : j < n) (B : Before j) (d-is : d ≡ get_or fs (at + j) 0) (a : Found) (F : Finds P (def_kind sl) d a) where
-    pub one_more : (p : ℕ) → a ≡ At p → Before (j + 1)
-    one_more p e i k =
+  module _ (j d : ℕ) (j< : j < n) (B : Before j) (d-is : d ≡ get_or fs (at + j) 0) (k : Kind) (k-is : k ≡ def_kind sl) where
+    pub one_more : (p : ℕ) → Live P (k, p) × (num P (k, p) ≡ d) → Before (j + 1)
+    one_more p F i h =
         by_cases (ℕ_discrete i j)
         (λ q. record { place = p; live = here.0; number = here.1 ∙ d-is ∙ ap (λ (y : ℕ). get_or fs (at + y) 0) (sym q) })
-        (λ q. B i (omega (arith, k, q)))
+        (λ q. B i (omega (arith, h, q)))
       where
         here : Live P (def_kind sl, p) × (num P (def_kind sl, p) ≡ d)
-        here = rw e at F
+        here = subst (λ (x : Kind). Live P (x, p) × (num P (x, p) ≡ d)) k-is F
 
-    pub one_lost : (c : ℕ) → a ≡ Nothing → c ≡ missing_code (def_kind sl) → NamesIs l sl fs at n m c
-    one_lost c e c_is = record { lost = λ z xs. all xs; there = λ z. absurd (omega (arith, z, c_is, pos sl)) }
+    pub one_lost : (r : Refusal) → Unnamed P k d × (number_of r ≡ missing_code k) → NamesIs l sl fs at n m (number_of r)
+    one_lost r u = record { lost = λ z xs. all xs; there = λ z. absurd (omega (arith, z, number_of-positive r)) }
       where
-        u : Unnamed P (def_kind sl) d
-        u = rw e at F
-
-        pos : (s : Slot) → 1 ≤ missing_code (def_kind s)
-        pos operand = omega arith
-        pos successor = omega arith
+        c : ℕ
+        c = number_of r
 
         c_suc : c ≡ suc (c - 1)
-        c_suc = omega (arith, c_is, pos sl)
+        c_suc = omega (arith, number_of-positive r)
 
         all : (xs : List Name) → first_missing (abs l m).history (map (definition_named sl) (part fs at n) ++ xs) ≡ c
         all xs =
             missing_at (abs l m).history (definition_named sl) (part fs at n) j (c - 1) xs (omega (arith, j<, part_length fs at n fit))
-            (λ i k. let k' : i < n = omega (arith, k, j<) in ap (λ (y : ℕ). missing (abs l m).history (definition_named sl y)) (part_at fs at n i k') ∙ name_there (get_or fs (at + i) 0) (B i k))
-            (ap (λ (y : ℕ). missing (abs l m).history (definition_named sl y)) (part_at fs at n j j< ∙ sym d-is) ∙ name_lost d u ∙ sym c_is ∙ c_suc)
+            (λ i h. let h' : i < n = omega (arith, h, j<) in ap (λ (y : ℕ). missing (abs l m).history (definition_named sl y)) (part_at fs at n i h') ∙ name_there (get_or fs (at + i) 0) (B i h))
+            (ap (λ (y : ℕ). missing (abs l m).history (definition_named sl y)) (part_at fs at n j j< ∙ sym d-is) ∙ name_lost d (subst (λ (x : Kind). Unnamed P x d) k-is u.0) ∙ sym (u.1 ∙ ap missing_code k-is) ∙ c_suc)
             ∙ sym c_suc

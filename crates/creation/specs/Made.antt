@@ -1,7 +1,7 @@
 -- A new operation or block while it is made: the memory after some of its births, and what the rules say to so much of the edit.
 -- Assumes nothing: these are definitions.
 use Rattle.std.specs.Prelude.{◌≡◌, ◌≢◌, List, ◌++◌, map, ℕ, ◌+◌, ◌-◌, ◌<◌, ◌≤◌, length, get_or}
-use Rattle.edit.specs.Record.{Slot, Edit, new_operation, new_block, part}
+use Rattle.edit.specs.Record.{Slot, operand, successor, Edit, new_operation, new_block, part}
 use Rattle.edit.specs.Taken.{edit_of, OperationFields, BlockFields}
 use Rattle.rules.specs.Refusal.{Name, definition_named, first_missing, refusal_of}
 use Rattle.places.specs.Store.{Kind, op, blk, val, usg, Live, State}
@@ -15,6 +15,7 @@ use Rattle.context.specs.Memory as M
 use Rattle.context.specs.Memory.{state_of, SoundStore}
 use Rattle.context.specs.Performed.{abs}
 use Rattle.creation.specs.Room.{five, wants, spare, left}
+use Rattle.creation.specs.declared.Parts.{Parts}
 
 -- the uses that were born and have ended
 abbrev pub gone : Layout → List ℕ → ℕ
@@ -73,45 +74,59 @@ pub record Used (l : Layout) (sl : Slot) (o i d : ℕ) (m m' : List ℕ) : Type 
   pub kept : Live (state_of l m') (op, o) × (num (state_of l m') (op, o) ≡ num (state_of l m) (op, o))
 
 -- the counts of the record's lists
-pub record Counts (fs : List ℕ) (r a s g : ℕ) : Type 0 where
-  pub results : r ≡ get_or fs 1 0
-  pub operands : a ≡ get_or fs 2 0
-  pub successors : s ≡ get_or fs 3 0
-  pub regions : g ≡ get_or fs 4 0
+pub record Counts (fs : List ℕ) (c : Parts) : Type 0 where
+  pub results : c.results ≡ get_or fs 1 0
+  pub operands : c.operands ≡ get_or fs 2 0
+  pub successors : c.successors ≡ get_or fs 3 0
+  pub regions : c.regions ≡ get_or fs 4 0
+
+-- where the record lists the definitions of a slot's uses, and how many
+abbrev pub uses_from : Parts → Slot → ℕ
+uses_from c operand = 5 + c.results
+uses_from c successor = 5 + c.results + c.operands
+
+abbrev pub uses_many : Parts → Slot → ℕ
+uses_many c operand = c.operands
+uses_many c successor = c.successors
+
+pub record UsesAt (c : Parts) (sl : Slot) (r : ℕ × ℕ) : Type 0 where
+  pub from : r.0 ≡ uses_from c sl
+  pub many : r.1 ≡ uses_many c sl
 
 -- the tests of a new operation passed
-pub record OperationReady (l : Layout) (fs : List ℕ) (r a s g : ℕ) (m : List ℕ) : Type 0 where
+pub record OperationReady (l : Layout) (fs : List ℕ) (c : Parts) (m : List ℕ) : Type 0 where
   pub sound : SoundStore l m
   pub fields : OperationFields fs
-  pub counts : Counts fs r a s g
-  pub places : (k : Kind) → wants k (five 1 0 g r (a + s)) ≤ spare l m k
-  pub numbers : (k : Kind) → wants k (five 1 0 g r (a + s)) ≤ left l m k
-  pub values : (i : ℕ) → i < a → Named (state_of l m) val (get_or fs (5 + r + i) 0)
-  pub blocks : (i : ℕ) → i < s → Named (state_of l m) blk (get_or fs (5 + r + a + i) 0)
+  pub counts : Counts fs c
+  pub places : (k : Kind) → wants k (five 1 0 c.regions c.results (c.operands + c.successors)) ≤ spare l m k
+  pub numbers : (k : Kind) → wants k (five 1 0 c.regions c.results (c.operands + c.successors)) ≤ left l m k
+  pub values : (i : ℕ) → i < c.operands → Named (state_of l m) val (get_or fs (5 + c.results + i) 0)
+  pub blocks : (i : ℕ) → i < c.successors → Named (state_of l m) blk (get_or fs (5 + c.results + c.operands + i) 0)
 
--- c is the refusal of the record's edit, or 0
-pub record OperationTested (l : Layout) (fs : List ℕ) (r a s g : ℕ) (m : List ℕ) (c : ℕ) : Type 0 where
-  pub is : refusal_of (abs l m) (edit_of 1 fs) ≡ c
-  pub ready : c ≡ 0 → OperationReady l fs r a s g m
+-- n is the refusal of the record's edit, or 0
+pub record OperationTested (l : Layout) (fs : List ℕ) (c : Parts) (m : List ℕ) (n : ℕ) : Type 0 where
+  pub is : refusal_of (abs l m) (edit_of 1 fs) ≡ n
+  pub ready : n ≡ 0 → OperationReady l fs c m
 
--- the edit with the first i results, j operands, k successors and n regions of a record with r results and a operands
-abbrev pub grown : List ℕ → (r a i j k n : ℕ) → Edit
-grown fs r a i j k n = new_operation (get_or fs 0 0) (part fs 5 i) (part fs (5 + r) j) (part fs (5 + r + a) k) n
+-- the edit with the first i results, j operands, k successors and n regions of a record that lists so many
+abbrev pub grown : List ℕ → Parts → (i j k n : ℕ) → Edit
+grown fs c i j k n = new_operation (get_or fs 0 0) (part fs 5 i) (part fs (5 + c.results) j) (part fs (5 + c.results + c.operands) k) n
 
--- the smaller of two
-abbrev pub least : ℕ → ℕ → ℕ
-least x y = x - (x - y)
+-- the edit with the results, and the first j uses of a slot: of the successors, after all operands
+abbrev pub with_uses : List ℕ → Parts → Slot → ℕ → Edit
+with_uses fs c operand j = grown fs c c.results j 0 0
+with_uses fs c successor j = grown fs c c.results c.operands j 0
 
--- the operation at o after j births: the results first, then the operands, the successors and the regions
-pub record OperationPartly (l : Layout) (fs : List ℕ) (r a s g o j : ℕ) (m m' : List ℕ) : Type 0 where
-  pub ready : OperationReady l fs r a s g m
-  pub made : Made l (grown fs r a (least r j) (least a (j - r)) (least s (j - r - a)) (j - r - a - s)) op o m m'
+-- the operation at o as by the edit e: the results are born first, then the operands, the successors and the regions
+pub record OperationPartly (l : Layout) (fs : List ℕ) (c : Parts) (o : ℕ) (e : Edit) (m m' : List ℕ) : Type 0 where
+  pub ready : OperationReady l fs c m
+  pub made : Made l e op o m m'
 
 -- some memory led to this one
-pub record Underway (l : Layout) (fs : List ℕ) (r a s g o j : ℕ) (m : List ℕ) : Type 0 where
+pub record Underway (l : Layout) (fs : List ℕ) (c : Parts) (o : ℕ) (e : Edit) (m : List ℕ) : Type 0 where
   pub from : List ℕ
-  pub partly : OperationPartly l fs r a s g o j from m
+  pub partly : OperationPartly l fs c o e from m
 
--- whatever led to the one leads to the other by one birth more
-pub record Onward (l : Layout) (fs : List ℕ) (r a s g o j : ℕ) (m m' : List ℕ) : Type 0 where
-  pub on : (e : List ℕ) → OperationPartly l fs r a s g o j e m → OperationPartly l fs r a s g o (j + 1) e m'
+-- whatever led to the one, as by the edit e, leads to the other as by e'
+pub record Onward (l : Layout) (fs : List ℕ) (c : Parts) (o : ℕ) (e e' : Edit) (m m' : List ℕ) : Type 0 where
+  pub on : (start : List ℕ) → OperationPartly l fs c o e start m → OperationPartly l fs c o e' start m'

@@ -2,108 +2,120 @@
 // Ported from pliron 0.20.0 (src/operation.rs, src/basic_block.rs), Apache-2.0.
 #![tactic(auto)]
 
-ghost use Rattle.std.specs.Prelude.{◌≡◌, true, false, ◌+◌, ◌-◌, ◌*◌, ◌≤◌, ◌<◌, length};
-ghost use Rattle.table.specs.Table.{Says};
+ghost use Rattle.std.specs.Prelude.{◌≡◌, ◌+◌, ◌≤◌};
+ghost use Rattle.edit.specs.Kinds.{slot_of, code_of};
 ghost use Rattle.edit.specs.Taken.{fields_of, edit_of, Passed};
-ghost use Rattle.rules.specs.Refusal.{lacks, numbers, live_counts};
-ghost use Rattle.context.specs.Layout.{cap_of, kind_of};
-ghost use Rattle.places.specs.Roles.{def_kind, slot_by};
-ghost use Rattle.context.specs.Memory.{state_of, Well, SoundStore, Finds};
-ghost use Rattle.context.specs.Performed.{abs, Performed};
-ghost use Rattle.creation.specs.Room.{five, spare, left, LackIs, RoomIs};
-ghost use Rattle.creation.specs.Made.{NamesIs, Counts, OperationTested, CanUse, Used, Underway, Onward};
+ghost use Rattle.places.specs.Roles.{def_kind};
+ghost use Rattle.context.specs.Kinds.{kind_of};
+ghost use Rattle.context.specs.Memory.{state_of, Well, SoundStore};
+ghost use Rattle.context.specs.Performed.{Performed};
+ghost use Rattle.creation.specs.Room.{five_of, over, ByKind, spare, left, RoomIs};
+ghost use Rattle.creation.specs.Made.{NamesIs, Counts, UsesAt, OperationTested, CanUse, Used, grown, with_uses, uses_from, uses_many, Underway, Onward};
 
-use bits::Found;
-use context::Layout;
-use edit::Answer;
+use context::{Kind, Layout};
+use edit::{Answer, Refusal, Slot};
 
-// Whether more places of the kind `k`, with the capacity `n`, are wanted than are free.
-fn lacks_places(m: &[u32], l: Layout, k: usize, n: usize, want: usize) -> bool
-    requires well { Well l m.now }
-    requires n_value { n ≡ cap_of l (kind_of k) }
-    ensures { Says result (spare l m.now (kind_of k) < want) }
-{
-    let x = context::live_count(m, l, k);
-    if n - x < want {
-        return true;
-    }
-    false
+// A number for each kind.
+#[derive(Clone, Copy)]
+struct Five {
+    operations: usize,
+    blocks: usize,
+    regions: usize,
+    values: usize,
+    uses: usize,
 }
 
-// Whether more numbers of the kind `k` are wanted than are left.
-fn lacks_numbers(m: &[u32], l: Layout, k: usize, want: usize) -> bool
+impl Five {
+    // What `f` gives for each kind.
+    fn by<F: Fn(Kind) -> usize>(f: F) -> Five
+        requires { F.IsAlwaysCallable f }
+        ensures { ByKind (F.post f) result }
+    {
+        Five {
+            operations: f(Kind::Operation),
+            blocks: f(Kind::Block),
+            regions: f(Kind::Region),
+            values: f(Kind::Value),
+            uses: f(Kind::Use),
+        }
+    }
+
+    // Whether one of the numbers is over the one in `room`.
+    fn over(self, room: Five) -> bool
+        ensures { result ≡ over (five_of self) (five_of room) }
+    {
+        room.operations < self.operations
+            || room.blocks < self.blocks
+            || room.regions < self.regions
+            || room.values < self.values
+            || room.uses < self.uses
+    }
+}
+
+// How many of each a new operation has.
+#[derive(Clone, Copy)]
+struct Parts {
+    results: usize,
+    operands: usize,
+    successors: usize,
+    regions: usize,
+}
+
+impl Parts {
+    // The counts of a new operation's record.
+    fn of(rec: &[u8]) -> Parts
+        ensures { Counts (fields_of rec.now) result }
+    {
+        Parts {
+            results: edit::field(rec, 1) as usize,
+            operands: edit::field(rec, 2) as usize,
+            successors: edit::field(rec, 3) as usize,
+            regions: edit::field(rec, 4) as usize,
+        }
+    }
+
+    // The field from which the record lists the definitions of a slot's uses, and how many they are.
+    fn uses_at(self, sl: Slot) -> (usize, usize)
+        requires { self.results + self.operands ≤ 128 }
+        ensures { UsesAt self (slot_of sl) result }
+    {
+        match sl {
+            Slot::Operand => (5 + self.results, self.operands),
+            Slot::Successor => (5 + self.results + self.operands, self.successors),
+        }
+    }
+}
+
+// How many places of the kind `k` are free.
+fn free_places(m: &[u32], l: Layout, k: Kind) -> usize
     requires { Well l m.now }
-    ensures { Says result (left l m.now (kind_of k) < want) }
+    ensures { result ≡ spare l m.now (kind_of k) }
 {
-    let x = context::next_number(m, l, k) as usize;
-    if 4294967295 - x < want {
-        return true;
-    }
-    false
+    context::table_span(l, k).places - context::live_count(m, l, k)
 }
 
-// Whether places are wanting for so many operations, blocks, regions, values and uses.
-fn places_lack(m: &[u32], l: Layout, o: usize, b: usize, r: usize, v: usize, u: usize) -> bool
-    requires { SoundStore l m.now }
-    ensures { LackIs (lacks (abs l m.now).capacities (live_counts (abs l m.now)) (five o b r v u)) (spare l m.now) (five o b r v u) result }
+// How many numbers of the kind `k` are left.
+fn free_numbers(m: &[u32], l: Layout, k: Kind) -> usize
+    requires { Well l m.now }
+    ensures { result ≡ left l m.now (kind_of k) }
 {
-    let a = lacks_places(m, l, 0, l.ops, o);
-    if a {
-        return true;
-    }
-    let c = lacks_places(m, l, 1, l.blocks, b);
-    if c {
-        return true;
-    }
-    let d = lacks_places(m, l, 2, l.regions, r);
-    if d {
-        return true;
-    }
-    let e = lacks_places(m, l, 3, l.values, v);
-    if e {
-        return true;
-    }
-    lacks_places(m, l, 4, l.uses, u)
+    (u32::MAX - context::next_number(m, l, k)) as usize
 }
 
-// Whether numbers are wanting for so many.
-fn numbers_lack(m: &[u32], l: Layout, o: usize, b: usize, r: usize, v: usize, u: usize) -> bool
+// Refused where places are wanting (20), and where numbers are (21).
+fn test_room(m: &[u32], l: Layout, want: Five) -> Result<(), Refusal>
     requires { SoundStore l m.now }
-    ensures { LackIs (lacks numbers (abs l m.now).history.born (five o b r v u)) (left l m.now) (five o b r v u) result }
+    ensures { RoomIs l (five_of want) m.now (code_of result) }
 {
-    let a = lacks_numbers(m, l, 0, o);
-    if a {
-        return true;
+    let places = Five::by(|k| free_places(m, l, k));
+    if want.over(places) {
+        return Err(Refusal::NoPlace);
     }
-    let c = lacks_numbers(m, l, 1, b);
-    if c {
-        return true;
+    let numbers = Five::by(|k| free_numbers(m, l, k));
+    if want.over(numbers) {
+        return Err(Refusal::NoNumber);
     }
-    let d = lacks_numbers(m, l, 2, r);
-    if d {
-        return true;
-    }
-    let e = lacks_numbers(m, l, 3, v);
-    if e {
-        return true;
-    }
-    lacks_numbers(m, l, 4, u)
-}
-
-// 20 where places are wanting, 21 where numbers are, and else 0.
-fn room_code(m: &[u32], l: Layout, o: usize, b: usize, r: usize, v: usize, u: usize) -> u32
-    requires { SoundStore l m.now }
-    ensures { RoomIs l (five o b r v u) m.now result }
-{
-    let p = places_lack(m, l, o, b, r, v, u);
-    if p {
-        return 20;
-    }
-    let n = numbers_lack(m, l, o, b, r, v, u);
-    if n {
-        return 21;
-    }
-    0
+    Ok(())
 }
 
 // Kind 2: a block with an argument of each type that the record lists.
@@ -113,119 +125,101 @@ pub fn new_block(m: &mut [u32], l: Layout, rec: &[u8]) -> Answer
     ensures { Performed l (edit_of 2 (fields_of rec.now)) m.old m.new result }
 {
     let n = edit::field(rec, 0) as usize;
-    let c = room_code(m, l, 0, 1, 0, n, 0);
-    if c != 0 {
-        return Answer::Refused(c);
-    }
-    let x = context::next_number(m, l, 1);
+    let want = Five {
+        operations: 0,
+        blocks: 1,
+        regions: 0,
+        values: n,
+        uses: 0,
+    };
+    test_room(m, l, want)?;
+    let x = context::next_number(m, l, Kind::Block);
     let b = context::basic_block::birth_block(m, l);
-    let k = l.ops + b;
-    let mut j = 0;
-    while j < n {
+    for j in 0..n {
         let t = edit::field(rec, 1 + j);
-        context::value::birth_value(m, l, k, j, t);
-        j += 1;
+        context::value::birth_value(m, l, l.ops + b, j, t);
     }
-    Answer::Accepted(x, 0)
+    Ok((x, 0))
 }
 
-// The place of the value (`sl` 0) or the block with this number.
-fn definition(m: &[u32], l: Layout, sl: usize, number: u32) -> Found
-    requires { Well l m.now }
-    ensures { Finds (state_of l m.now) (def_kind (slot_by sl)) number result }
+// The kind of what the uses of a slot are uses of.
+fn definition(sl: Slot) -> Kind
+    ensures { kind_of result ≡ def_kind (slot_of sl) }
 {
-    if sl == 0 {
-        return context::find(m, l, 3, number);
+    match sl {
+        Slot::Operand => Kind::Value,
+        Slot::Successor => Kind::Block,
     }
-    context::find(m, l, 1, number)
 }
 
-// Whether the `n` definitions that the record lists from the field `at` on are there: 0, or the refusal.
-fn names_code(m: &[u32], l: Layout, rec: &[u8], sl: usize, at: usize, n: usize) -> u32
-    requires sound_store { SoundStore l m.now }
-    requires n_in_bounds { at + n ≤ length (fields_of rec.now) }
-    requires n_bound { at + n ≤ 1000 }
-    ensures { NamesIs l (slot_by sl) (fields_of rec.now) at n m.now result }
-{
-    let mut j = 0;
-    while j < n {
-        let d = edit::field(rec, at + j);
-        let a = definition(m, l, sl, d);
-        let Found::At(p) = a else {
-            return context::value::missing(sl);
-        };
-        j += 1;
-    }
-    0
-}
-
-// The tests of a new operation with `r` results, `a` operands, `s` successors and `g` regions: 0, or the refusal.
-fn operation_code(m: &[u32], l: Layout, rec: &[u8], r: usize, a: usize, s: usize, g: usize) -> u32
+// Refused where one of the definitions that a new operation's record lists for a slot is not there.
+fn test_names(m: &[u32], l: Layout, rec: &[u8], n: Parts, sl: Slot) -> Result<(), Refusal>
     requires sound_store { SoundStore l m.now }
     requires passed { Passed 1 (fields_of rec.now) }
-    requires counts { Counts (fields_of rec.now) r a s g }
-    ensures { OperationTested l (fields_of rec.now) r a s g m.now result }
+    requires counts { Counts (fields_of rec.now) n }
+    ensures { NamesIs l (slot_of sl) (fields_of rec.now) (uses_from n (slot_of sl)) (uses_many n (slot_of sl)) m.now (code_of result) }
 {
-    let c = names_code(m, l, rec, 0, 5 + r, a);
-    if c != 0 {
-        return c;
+    let (at, many) = n.uses_at(sl);
+    for j in 0..many {
+        let d = edit::field(rec, at + j);
+        context::look_up(m, l, definition(sl), d)?;
     }
-    let d = names_code(m, l, rec, 1, 5 + r + a, s);
-    if d != 0 {
-        return d;
-    }
-    room_code(m, l, 1, 0, g, r, a + s)
+    Ok(())
 }
 
-// A use of the definition with the number `d` is born at index `i` of the operands (`sl` 0) or successors of the operation at `o`.
-fn bear_use(m: &mut [u32], l: Layout, sl: usize, o: usize, i: usize, d: u32)
-    requires sound_store { SoundStore l m.old }
-    requires can_use { CanUse l (slot_by sl) o d m.old }
-    ensures { Used l (slot_by sl) o i d m.old m.new }
+// The tests of a new operation whose record lists so many.
+fn test_operation(m: &[u32], l: Layout, rec: &[u8], n: Parts) -> Result<(), Refusal>
+    requires sound_store { SoundStore l m.now }
+    requires passed { Passed 1 (fields_of rec.now) }
+    requires counts { Counts (fields_of rec.now) n }
+    ensures { OperationTested l (fields_of rec.now) n m.now (code_of result) }
 {
-    let a = definition(m, l, sl, d);
-    let Found::At(p) = a else {
-        return;
+    test_names(m, l, rec, n, Slot::Operand)?;
+    test_names(m, l, rec, n, Slot::Successor)?;
+    let want = Five {
+        operations: 1,
+        blocks: 0,
+        regions: n.regions,
+        values: n.results,
+        uses: n.operands + n.successors,
     };
-    if sl == 0 {
-        context::value::birth_use(m, l, 2 * o, i, p);
-        return;
-    }
-    context::value::birth_use(m, l, 2 * o + 1, i, l.values + p);
+    test_room(m, l, want)
 }
 
-// The birth after `j` of a new operation at `o`: of a result, an operand, a successor or a region.
-fn bear_part(
-    m: &mut [u32],
-    l: Layout,
-    rec: &[u8],
-    r: usize,
-    a: usize,
-    s: usize,
-    g: usize,
-    o: usize,
-    j: usize,
-)
-    requires underway { Underway l (fields_of rec.now) r a s g o j m.old }
-    requires j_bound { j < r + a + s + g }
-    ensures { Onward l (fields_of rec.now) r a s g o j m.old m.new }
+// The results of a new operation at `o` are born.
+fn bear_results(m: &mut [u32], l: Layout, rec: &[u8], n: Parts, o: usize)
+    requires { Underway l (fields_of rec.now) n o (grown (fields_of rec.now) n 0 0 0 0) m.old }
+    ensures { Onward l (fields_of rec.now) n o (grown (fields_of rec.now) n 0 0 0 0) (grown (fields_of rec.now) n n.results 0 0 0) m.old m.new }
 {
-    let x = edit::field(rec, 5 + j);
-    if j < r {
-        context::value::birth_value(m, l, o, j, x);
-        return;
+    for j in 0..n.results {
+        let t = edit::field(rec, 5 + j);
+        context::value::birth_value(m, l, o, j, t);
     }
-    let i = j - r;
-    if i < a {
-        bear_use(m, l, 0, o, i, x);
-        return;
+}
+
+// A use of the definition with the number `d` is born at index `i` of the slot of the operation at `o`.
+fn bear_use(m: &mut [u32], l: Layout, sl: Slot, o: usize, i: usize, d: u32)
+    requires sound_store { SoundStore l m.old }
+    requires can_use { CanUse l (slot_of sl) o d m.old }
+    ensures { Used l (slot_of sl) o i d m.old m.new }
+{
+    let p = context::find(m, l, definition(sl), d).unwrap();
+    match sl {
+        Slot::Operand => context::value::birth_use(m, l, 2 * o, i, p),
+        Slot::Successor => context::value::birth_use(m, l, 2 * o + 1, i, l.values + p),
+    };
+}
+
+// The uses in a slot of a new operation at `o` are born.
+fn bear_uses(m: &mut [u32], l: Layout, rec: &[u8], n: Parts, sl: Slot, o: usize)
+    requires { Underway l (fields_of rec.now) n o (with_uses (fields_of rec.now) n (slot_of sl) 0) m.old }
+    ensures { Onward l (fields_of rec.now) n o (with_uses (fields_of rec.now) n (slot_of sl) 0) (with_uses (fields_of rec.now) n (slot_of sl) (uses_many n (slot_of sl))) m.old m.new }
+{
+    let (at, many) = n.uses_at(sl);
+    for j in 0..many {
+        let d = edit::field(rec, at + j);
+        bear_use(m, l, sl, o, j, d);
     }
-    let k = i - a;
-    if k < s {
-        bear_use(m, l, 1, o, k, x);
-        return;
-    }
-    context::region::birth_region(m, l, o);
 }
 
 // Kind 1: an operation with its results, operands, successors and regions.
@@ -234,22 +228,15 @@ pub fn new_operation(m: &mut [u32], l: Layout, rec: &[u8]) -> Answer
     requires passed { Passed 1 (fields_of rec.now) }
     ensures { Performed l (edit_of 1 (fields_of rec.now)) m.old m.new result }
 {
-    let r = edit::field(rec, 1) as usize;
-    let a = edit::field(rec, 2) as usize;
-    let s = edit::field(rec, 3) as usize;
-    let g = edit::field(rec, 4) as usize;
-    let c = operation_code(m, l, rec, r, a, s, g);
-    if c != 0 {
-        return Answer::Refused(c);
+    let n = Parts::of(rec);
+    test_operation(m, l, rec, n)?;
+    let x = context::next_number(m, l, Kind::Operation);
+    let o = context::operation::birth_op(m, l, edit::field(rec, 0));
+    bear_results(m, l, rec, n, o);
+    bear_uses(m, l, rec, n, Slot::Operand, o);
+    bear_uses(m, l, rec, n, Slot::Successor, o);
+    for _ in 0..n.regions {
+        context::region::birth_region(m, l, o);
     }
-    let f = edit::field(rec, 0);
-    let x = context::next_number(m, l, 0);
-    let o = context::operation::birth_op(m, l, f);
-    let n = r + a + s + g;
-    let mut j = 0;
-    while j < n {
-        bear_part(m, l, rec, r, a, s, g, o, j);
-        j += 1;
-    }
-    Answer::Accepted(x, 0)
+    Ok((x, 0))
 }

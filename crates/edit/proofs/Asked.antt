@@ -1,11 +1,9 @@
 -- What a caller of the reader goes on with: the fixed fields of a record that passed, and its listed numbers by index. Assumes nothing.
-use mathlib.Core.Path.{◌≡◌, refl, sym, ◌∙◌}
-use mathlib.Core.Bool.{Bool, true, false, ◌||◌}
+use mathlib.Core.Path.{◌≡◌, sym, ◌∙◌}
 use mathlib.Core.List.{List}
 use Prim.Native.Nat.{ℕ, ◌+◌, ◌-◌, ◌≤◌, ◌<◌}
 use native.Mathlib.Omega.{arith}
-use borrow.Author.Tests.{ltb-false}
-use lib.Dec.{ltb}
+use Rattle.std.proofs.lemmas.Bool.{or_parts, ltb-false}
 use lib.ListN.{length, get_or, drop, length-drop}
 use lib.Seq.{length-take-le, get_or-take, get_or-drop}
 use Rattle.edit.specs.Record.{field, part, over}
@@ -13,32 +11,21 @@ use Rattle.edit.specs.Taken.{Passed, OperationFields, BlockFields}
 use Rattle.edit.proofs.Limits.{types_over, filled_operation, filled_block}
 
 -- ---- what passed
-lower : (a b : Bool) → (a || b) ≡ false → a ≡ false
-lower true b e = e
-lower false b e = refl
-
-upper : (a b : Bool) → (a || b) ≡ false → b ≡ false
-upper true b e = let z : ◌≡◌ {A = ℕ} 0 1 = cc in absurd (omega arith)
-upper false b e = e
-
 pub operation_fields : (fs : List ℕ) → Passed 1 fs → OperationFields fs
 unfolding over field
 operation_fields fs p =
-    let f₀ : Bool = ltb 3 (get_or fs 0 0) in
-    let f₁ : Bool = ltb 64 (get_or fs 1 0) in
-    let f₂ : Bool = ltb 64 (get_or fs 2 0) in
-    let f₃ : Bool = ltb 64 (get_or fs 3 0) in
-    let f₄ : Bool = ltb 64 (get_or fs 4 0) in
-    let to₄ : (f₀ || f₁ || f₂ || f₃ || f₄) ≡ false = lower _ _ (lower _ _ p.limits) in
-    let to₃ : (f₀ || f₁ || f₂ || f₃) ≡ false = lower _ _ to₄ in
-    let to₂ : (f₀ || f₁ || f₂) ≡ false = lower _ _ to₃ in
-    let to₁ : (f₀ || f₁) ≡ false = lower _ _ to₂ in
+    let not_listed = or_parts _ _ p.limits in
+    let not_block = or_parts _ _ not_listed.0 in
+    let four = or_parts _ _ not_block.0 in
+    let three = or_parts _ _ four.0 in
+    let two = or_parts _ _ three.0 in
+    let one = or_parts _ _ two.0 in
     record {
-      flags = ltb-false 3 (get_or fs 0 0) (lower f₀ f₁ to₁);
-      results = ltb-false 64 (get_or fs 1 0) (upper f₀ f₁ to₁);
-      operands = ltb-false 64 (get_or fs 2 0) (upper (f₀ || f₁) f₂ to₂);
-      successors = ltb-false 64 (get_or fs 3 0) (upper (f₀ || f₁ || f₂) f₃ to₃);
-      regions = ltb-false 64 (get_or fs 4 0) (upper (f₀ || f₁ || f₂ || f₃) f₄ to₄);
+      flags = ltb-false 3 (get_or fs 0 0) one.0;
+      results = ltb-false 64 (get_or fs 1 0) one.1;
+      operands = ltb-false 64 (get_or fs 2 0) two.1;
+      successors = ltb-false 64 (get_or fs 3 0) three.1;
+      regions = ltb-false 64 (get_or fs 4 0) four.1;
       full = p.full ∙ filled_operation fs;
     }
 

@@ -6,13 +6,13 @@ use mathlib.Core.List.{List, [], ◌∷◌}
 use Prim.Native.Nat.{ℕ, zero, suc, ◌+◌, ◌-◌, ◌*◌, ◌/◌, ◌%◌, ◌≤◌, ◌<◌}
 use native.Mathlib.Nat.{add-zero, add_assoc}
 use native.Mathlib.Omega.{arith}
-use borrow.Author.Tests.{le-leb, lt-leb, eq-eqb, ne_eqb}
+use Rattle.std.proofs.Common.{Ok, Err, Some, None, rules}
+use Rattle.std.proofs.lemmas.Bool.{and_parts, false_from_ne_true, leb-true, eqb-true, le-leb, eq-eqb}
 use lib.ListN.{length, get_or, take, drop, length-drop, drop_of_length-le}
 use lib.Seq.{take-nil, get_or-take, get_or-drop, drop-drop}
 use Rattle.edit.specs.Record.{little, words, Cut, broken, whole, length_ok, cut}
-use Rattle.edit.specs.Taken.{record_kind, fields_of, number_at, cut_of, Lies, NextCut}
-use Rattle.edit.specs.declared.Next.{Next}
-use Rattle.edit.specs.declared.Next.TheVariants.{Nothing, Broken, Whole}
+use Rattle.edit.specs.Taken.{record_kind, fields_of, number_at, cut_of, NextCut}
+use Rattle.edit.specs.declared.Refusal.TheVariants.{Malformed}
 
 -- ---- words
 pub words_length : (l : List ℕ) → length (words l) ≡ length l / 4
@@ -129,23 +129,25 @@ module _ (s : List ℕ) (n : ℕ) (four : 4 ≤ n) where
   rest_drop : drop (n - 4) (drop 4 s) ≡ drop n s
   rest_drop = let e : 4 + (n - 4) ≡ n = omega arith in drop-drop (n - 4) 4 s ∙ ap (λ (m : ℕ). drop m s) e
 
--- no other case of `Next` is a whole record
-never : (bytes : List ℕ) (at end : ℕ) {r : Next} → r ≡ Broken → r ≡ Whole end → Lies bytes at end
-never bytes at end p q = let z : ◌≡◌ {A = ℕ} 0 1 = cc in absurd (omega arith)
-
-pub cut_none : (bytes : List ℕ) (at : ℕ) → length bytes ≤ at → NextCut bytes at Nothing
+pub cut_none : (bytes : List ℕ) (at : ℕ) → length bytes ≤ at → NextCut bytes at (Ok None)
 unfolding cut cut_of
 cut_none bytes at h = record {
   same = ap cut (drop_of_length-le bytes {i = at} h);
-  lies = λ end q. let z : ◌≡◌ {A = ℕ} 0 1 = cc in absurd (omega arith);
+  lies = λ end q. search rules;
+  broken = λ e q. search rules;
 }
 
-pub cut_short : (bytes : List ℕ) (at : ℕ) → at < length bytes → length bytes - at < 4 → NextCut bytes at Broken
+-- refusal 1, where the bytes from there on are cut so
+malformed : (bytes : List ℕ) (at : ℕ) → cut (drop at bytes) ≡ broken → NextCut bytes at (Err Malformed)
 unfolding cut_of
-cut_short bytes at g h = record {
-  same = cut_few (drop at bytes) (omega (arith, length-drop at bytes)) (omega (arith, length-drop at bytes));
-  lies = λ end q. never bytes at end refl q;
+malformed bytes at e = record {
+  same = e;
+  lies = λ end q. search rules;
+  broken = λ e q. cc;
 }
+
+pub cut_short : (bytes : List ℕ) (at : ℕ) → at < length bytes → length bytes - at < 4 → NextCut bytes at (Err Malformed)
+cut_short bytes at g h = malformed bytes at (cut_few (drop at bytes) (omega (arith, length-drop at bytes)) (omega (arith, length-drop at bytes)))
 
 -- ---- the test of the length
 module _ (n m : ℕ) where
@@ -153,21 +155,14 @@ module _ (n m : ℕ) where
   unfolding length_ok
   good h₁ h₂ h₃ h₄ = simp (le-leb 4 n h₁, le-leb n 2048 h₂, eq-eqb (n % 4) 0 h₃, le-leb n m h₄)
 
-  pub too_small : n < 4 → length_ok n m ≡ false
+  bad : (4 ≤ n → n ≤ 2048 → n % 4 ≡ 0 → n ≤ m → ⊥) → length_ok n m ≡ false
   unfolding length_ok
-  too_small h = simp (lt-leb 4 n h)
-
-  pub too_large : 4 ≤ n → 2048 < n → length_ok n m ≡ false
-  unfolding length_ok
-  too_large h₁ h₂ = simp (le-leb 4 n h₁, lt-leb n 2048 h₂)
-
-  pub not_fours : 4 ≤ n → n ≤ 2048 → (n % 4 ≡ 0 → ⊥) → length_ok n m ≡ false
-  unfolding length_ok
-  not_fours h₁ h₂ h₃ = simp (le-leb 4 n h₁, le-leb n 2048 h₂, ne_eqb (n % 4) 0 h₃)
-
-  pub past_end : 4 ≤ n → n ≤ 2048 → n % 4 ≡ 0 → m < n → length_ok n m ≡ false
-  unfolding length_ok
-  past_end h₁ h₂ h₃ h₄ = simp (le-leb 4 n h₁, le-leb n 2048 h₂, eq-eqb (n % 4) 0 h₃, lt-leb n m h₄)
+  bad fails =
+      false_from_ne_true _ (λ e.
+      let all = and_parts _ _ e in
+      let three = and_parts _ _ all.0 in
+      let two = and_parts _ _ three.0 in
+      fails (leb-true 4 n two.0) (leb-true n 2048 two.1) (eqb-true (n % 4) 0 three.1) (leb-true n m all.1))
 
 -- the bytes s from at on, four or more of them: the length that they state is byte at and byte at + 1
 module _ (bytes : List ℕ) (at n : ℕ) (four : at + 4 ≤ length bytes) (is : n ≡ get_or bytes at 0 + 256 * get_or bytes (at + 1) 0) where
@@ -180,14 +175,10 @@ module _ (bytes : List ℕ) (at n : ℕ) (four : at + 4 ≤ length bytes) (is : 
   tested : cut (drop at bytes) ≡ cut_by (drop at bytes) (length_ok n (length bytes - at))
   tested = cut_many (drop at bytes) (omega (arith, left)) ∙ ap₂ (λ (x y : ℕ). cut_by (drop at bytes) (length_ok x y)) states left
 
-  pub cut_bad : length_ok n (length bytes - at) ≡ false → NextCut bytes at Broken
-  unfolding cut_of
-  cut_bad e = record {
-    same = tested ∙ ap (cut_by (drop at bytes)) e;
-    lies = λ end q. never bytes at end refl q;
-  }
+  pub cut_bad : (4 ≤ n → n ≤ 2048 → n % 4 ≡ 0 → n ≤ length bytes - at → ⊥) → NextCut bytes at (Err Malformed)
+  cut_bad fails = malformed bytes at (tested ∙ ap (cut_by (drop at bytes)) (bad n (length bytes - at) fails))
 
-  parts : 4 ≤ n → cut_by (drop at bytes) true ≡ cut_of bytes at (Whole (at + n))
+  parts : 4 ≤ n → cut_by (drop at bytes) true ≡ cut_of bytes at (Ok (Some (at + n)))
   unfolding cut_of
   parts h =
       let s : List ℕ = drop at bytes in
@@ -197,8 +188,9 @@ module _ (bytes : List ℕ) (at n : ℕ) (four : at + 4 ≤ length bytes) (is : 
       let rest : drop (at + n) bytes ≡ drop (stated s - 4) (drop 4 s) = sym (drop-drop n at bytes) ∙ sym (rest_drop s n h) ∙ ap (λ (m : ℕ). drop (m - 4) (drop 4 s)) (sym states) in
       cc
 
-  pub cut_good : 4 ≤ n → n ≤ 2048 → n % 4 ≡ 0 → n ≤ length bytes - at → NextCut bytes at (Whole (at + n))
+  pub cut_good : 4 ≤ n → n ≤ 2048 → n % 4 ≡ 0 → n ≤ length bytes - at → NextCut bytes at (Ok (Some (at + n)))
   cut_good h₁ h₂ h₃ h₄ = record {
     same = tested ∙ ap (cut_by (drop at bytes)) (good n (length bytes - at) h₁ h₂ h₃ h₄) ∙ parts h₁;
     lies = λ end q. let e : at + n ≡ end = cc in let w : end - at ≡ n = omega arith in record { head = omega arith; inside = omega arith; short = omega arith; fours = ap (λ (m : ℕ). m % 4) w ∙ h₃ };
+    broken = λ e q. search rules;
   }

@@ -1,4 +1,5 @@
 pub mod Cuts
+pub mod Numbers
 pub mod Limits
 pub mod Answers
 pub mod Asked

@@ -1,48 +1,54 @@
 -- Refusals 2 to 4 by the tests that the code makes, and what a record that passed them holds. Assumes nothing.
 use mathlib.Core.Path.{◌≡◌, refl, sym, ap, subst, ◌∙◌}
+use mathlib.Core.Logic.{◌⊎◌, inl, inr}
 use mathlib.Core.Bool.{Bool, true, false, ◌||◌}
 use mathlib.Core.List.{List}
-use Prim.Native.Nat.{ℕ, zero, suc, ◌+◌, ◌-◌, ◌≤◌, ◌<◌}
+use Prim.Native.Nat.{ℕ, ◌+◌, ◌-◌, ◌≤◌, ◌<◌}
 use native.Mathlib.Omega.{arith}
-use borrow.Author.Tests.{lt-ltb, le-ltb, eq-eqb, ne_eqb}
+use Rattle.std.proofs.Common.{Ok, Err, rules}
+use Rattle.std.proofs.Math.Bool.{or-false}
+use Rattle.std.specs.List.{list_any, range_with_len}
+use Rattle.std.proofs.lemmas.Bool.{or_from, or_left, or_right, lt-ltb, le-ltb, eq-eqb, ne_eqb}
+use Rattle.edit.specs.Kinds.{number_of, kind_number, Names}
+use Rattle.edit.specs.declared.Refusal.{Refusal}
+use Rattle.edit.specs.declared.Refusal.TheVariants.{UnknownKind, FieldCount, OverLimit}
+use Rattle.edit.specs.declared.Kind.{Kind}
+use Rattle.edit.specs.declared.Kind.TheVariants.{NewOperation, NewBlock, ReplaceSome, RetargetSome}
+use Rattle.edit.proofs.Numbers.{kind_number-injective, kind_number-from, kind_number-to}
 use lib.Dec.{eqb, ltb}
 use lib.ListN.{length, get_or}
-use Rattle.edit.specs.Record.{field, least, over, filled, refused, asks, read}
-use Rattle.edit.specs.Taken.{record_kind, fields_of, edit_of, read_of, Passed, Taken}
-use Rattle.edit.specs.declared.Reading.TheVariants.{Refused, Asks}
-
-or_false : (t : Bool) → (t || false) ≡ t
-or_false true = refl
-or_false false = refl
+use Rattle.edit.specs.Record.{field, least, over, filled, Read, refused, read}
+use Rattle.edit.specs.Taken.{record_kind, fields_of, edit_of, edit_by, read_of, Passed, Taken}
 
 -- ---- 4, by the kinds that have a limit
 module _ (fs : List ℕ) where
-  pub flags_over : 3 < get_or fs 0 0 → over fs 1 ≡ true
+  counts_over_is : over fs 1 ≡ (ltb 3 (get_or fs 0 0) || list_any (λ i. ltb 64 (get_or fs i 0)) (range_with_len 1 4))
   unfolding over field
-  flags_over h₀ = simp (lt-ltb 3 (get_or fs 0 0) h₀)
+  counts_over_is =
+      let f₀ = ltb 3 (get_or fs 0 0) in
+      let f₁ = ltb 64 (get_or fs 1 0) in
+      let f₂ = ltb 64 (get_or fs 2 0) in
+      let f₃ = ltb 64 (get_or fs 3 0) in
+      let f₄ = ltb 64 (get_or fs 4 0) in
+      or-false _ ∙ or-false _ ∙ right f₀ f₁ f₂ f₃ f₄
+    where
+      right : (a b c d e : Bool) → (a || b || c || d || e) ≡ (a || (b || (c || (d || (e || false)))))
+      right true b c d e = refl
+      right false true c d e = refl
+      right false false true d e = refl
+      right false false false true e = refl
+      right false false false false true = refl
+      right false false false false false = refl
 
-  module _ (h₀ : get_or fs 0 0 ≤ 3) where
-    pub results_over : 64 < get_or fs 1 0 → over fs 1 ≡ true
-    unfolding over field
-    results_over h₁ = simp (le-ltb 3 (get_or fs 0 0) h₀, lt-ltb 64 (get_or fs 1 0) h₁)
+  pub flags_over : 3 < get_or fs 0 0 → over fs 1 ≡ true
+  flags_over h = counts_over_is ∙ or_left _ _ (lt-ltb 3 (get_or fs 0 0) h)
 
-    module _ (h₁ : get_or fs 1 0 ≤ 64) where
-      pub operands_over : 64 < get_or fs 2 0 → over fs 1 ≡ true
-      unfolding over field
-      operands_over h₂ = simp (le-ltb 3 (get_or fs 0 0) h₀, le-ltb 64 (get_or fs 1 0) h₁, lt-ltb 64 (get_or fs 2 0) h₂)
-
-      module _ (h₂ : get_or fs 2 0 ≤ 64) where
-        pub successors_over : 64 < get_or fs 3 0 → over fs 1 ≡ true
-        unfolding over field
-        successors_over h₃ = simp (le-ltb 3 (get_or fs 0 0) h₀, le-ltb 64 (get_or fs 1 0) h₁, le-ltb 64 (get_or fs 2 0) h₂, lt-ltb 64 (get_or fs 3 0) h₃)
-
-        pub regions_over : get_or fs 3 0 ≤ 64 → over fs 1 ≡ ltb 64 (get_or fs 4 0)
-        unfolding over field
-        regions_over h₃ = simp (le-ltb 3 (get_or fs 0 0) h₀, le-ltb 64 (get_or fs 1 0) h₁, le-ltb 64 (get_or fs 2 0) h₂, le-ltb 64 (get_or fs 3 0) h₃) (or_false (ltb 64 (get_or fs 4 0) || false) ∙ or_false (ltb 64 (get_or fs 4 0)))
+  pub flags_within : get_or fs 0 0 ≤ 3 → over fs 1 ≡ list_any (λ i. ltb 64 (get_or fs i 0)) (range_with_len 1 4)
+  flags_within h = counts_over_is ∙ simp (le-ltb 3 (get_or fs 0 0) h)
 
   pub types_over : over fs 2 ≡ ltb 64 (get_or fs 0 0)
   unfolding over field
-  types_over = or_false (ltb 64 (get_or fs 0 0))
+  types_over = or-false _
 
   pub uses_over : over fs 34 ≡ ltb 258 (length fs)
   unfolding over field
@@ -70,67 +76,89 @@ module _ (fs : List ℕ) where
   filled_blocks = refl
 
   -- ---- the other kinds
-  module _ (kind : ℕ) (not-1 : kind ≡ 1 → ⊥) (not-2 : kind ≡ 2 → ⊥) (not-34 : kind ≡ 34 → ⊥) (not-35 : kind ≡ 35 → ⊥) where
-    lists_nothing : (eqb kind 34 || eqb kind 35) ≡ false
-    lists_nothing = simp (ne_eqb kind 34 not-34, ne_eqb kind 35 not-35)
+  module _ (k : Kind) (not-1 : k ≡ NewOperation → ⊥) (not-2 : k ≡ NewBlock → ⊥) (not-34 : k ≡ ReplaceSome → ⊥) (not-35 : k ≡ RetargetSome → ⊥) where
+    makes_no_operation : eqb (kind_number k) 1 ≡ false
+    makes_no_operation = ne_eqb (kind_number k) 1 (λ e. not-1 (kind_number-injective k NewOperation e))
 
-    pub over_none : over fs kind ≡ false
+    makes_no_block : eqb (kind_number k) 2 ≡ false
+    makes_no_block = ne_eqb (kind_number k) 2 (λ e. not-2 (kind_number-injective k NewBlock e))
+
+    lists_nothing : (eqb (kind_number k) 34 || eqb (kind_number k) 35) ≡ false
+    lists_nothing =
+        or_from _ _
+        (ne_eqb (kind_number k) 34 (λ e. not-34 (kind_number-injective k ReplaceSome e)))
+        (ne_eqb (kind_number k) 35 (λ e. not-35 (kind_number-injective k RetargetSome e)))
+
+    pub over_none : over fs (kind_number k) ≡ false
     unfolding over
-    over_none = simp (ne_eqb kind 1 not-1, ne_eqb kind 2 not-2, lists_nothing)
+    over_none = simp (makes_no_operation, makes_no_block, lists_nothing)
 
-    pub filled_fixed : filled fs kind ≡ get_or least (kind - 1) 0
+    pub filled_fixed : filled fs (kind_number k) ≡ get_or least (kind_number k - 1) 0
     unfolding filled
-    filled_fixed = rw (ne_eqb kind 1 not-1, ne_eqb kind 2 not-2, lists_nothing, filled)
+    filled_fixed = rw (makes_no_operation, makes_no_block, lists_nothing, filled)
 
 -- ---- refusals 2 to 4, in the order of the tests
-module _ (kind : ℕ) (fs : List ℕ) where
-  pub kind_zero : kind ≡ 0 → read kind fs ≡ refused 2
-  unfolding read
-  kind_zero e = rw (eq-eqb kind 0 e, read)
-
-  known : (kind ≡ 0 → ⊥) → kind ≤ 44 → (eqb kind 0 || ltb 44 kind) ≡ false
-  known d h = simp (ne_eqb kind 0 d, le-ltb 44 kind h)
-
-  pub kind_large : (kind ≡ 0 → ⊥) → 44 < kind → read kind fs ≡ refused 2
-  unfolding read
-  kind_large d h = rw (ne_eqb kind 0 d, lt-ltb 44 kind h, read)
-
-  module _ (d : kind ≡ 0 → ⊥) (h : kind ≤ 44) where
-    pub too_few : length fs < get_or least (kind - 1) 0 → read kind fs ≡ refused 3
-    unfolding read
-    too_few l = rw (known d h, lt-ltb (length fs) (get_or least (kind - 1) 0) l, read)
-
-    module _ (enough : get_or least (kind - 1) 0 ≤ length fs) where
-      pub over_limit : over fs kind ≡ true → read kind fs ≡ refused 4
-      unfolding read
-      over_limit o = rw (known d h, le-ltb (length fs) (get_or least (kind - 1) 0) enough, o, read)
-
-      module _ (o : over fs kind ≡ false) where
-        pub not_full : (length fs ≡ filled fs kind → ⊥) → read kind fs ≡ refused 3
-        unfolding read
-        not_full n = rw (known d h, le-ltb (length fs) (get_or least (kind - 1) 0) enough, o, ne_eqb (length fs) (filled fs kind) n, read)
-
-        pub read_edit : length fs ≡ filled fs kind → read kind fs ≡ asks (edit_of kind fs)
-        unfolding read edit_of
-        read_edit e = rw (known d h, le-ltb (length fs) (get_or least (kind - 1) 0) enough, o, eq-eqb (length fs) (filled fs kind) e, read)
-
--- ---- as the function's promise
-pub at_least_one : (n : ℕ) → (n ≡ 0 → ⊥) → 1 ≤ n
-at_least_one zero d = absurd (d refl)
-at_least_one (suc n) d = omega arith
-
-pub taken_refused : (rec : List ℕ) (kind n : ℕ) → kind ≡ record_kind rec → read kind (fields_of rec) ≡ refused n → Taken rec (Refused n)
+refused_by : (rec : List ℕ) (r : Refusal) → read (record_kind rec) (fields_of rec) ≡ refused (number_of r) → Taken rec (Err r)
 unfolding read_of
-taken_refused rec kind n e q = record {
-  same = ap (λ (k : ℕ). read k (fields_of rec)) (sym e) ∙ q;
-  kind = λ k q. let z : ◌≡◌ {A = ℕ} 0 1 = cc in absurd (omega arith);
-  passed = λ k q. let z : ◌≡◌ {A = ℕ} 0 1 = cc in absurd (omega arith);
+refused_by rec r q = record {
+  same = q;
+  kind = λ k e. search rules;
+  passed = λ k e. search rules;
 }
 
-pub taken_asks : (rec : List ℕ) (kind : ℕ) → kind ≡ record_kind rec → Passed kind (fields_of rec) → Taken rec (Asks kind)
-unfolding read_of
-taken_asks rec kind e p = record {
-  same = ap (λ (k : ℕ). read k (fields_of rec)) (sym e) ∙ read_edit kind (fields_of rec) (λ z. omega (arith, p.from)) p.to p.fixed p.limits p.full;
-  kind = λ k q. let s : kind ≡ k = cc in sym e ∙ s;
-  passed = λ k q. let s : kind ≡ k = cc in subst (λ (x : ℕ). Passed x (fields_of rec)) s p;
-}
+no_kind : (n : ℕ) (fs : List ℕ) → n ≡ 0 ⊎ 44 < n → read n fs ≡ refused (number_of UnknownKind)
+unfolding read
+no_kind n fs (inl e) = rw (eq-eqb n 0 e, read)
+no_kind n fs (inr h) = rw (or_right (eqb n 0) (ltb 44 n) (lt-ltb 44 n h), read)
+
+pub unknown : (rec : List ℕ) (r : Refusal) → Names (record_kind rec) (Err r) → Taken rec (Err r)
+unfolding Names
+unknown rec r named = refused_by rec r (no_kind _ _ named.1 ∙ ap (λ (x : Refusal). refused (number_of x)) (sym named.0))
+
+-- the bytes name a kind
+module _ (rec : List ℕ) (k : Kind) (named : Names (record_kind rec) (Ok k)) where
+  fs : List ℕ
+  fs = fields_of rec
+
+  n : ℕ
+  n = kind_number k
+
+  is : n ≡ record_kind rec
+  unfolding Names n
+  is = named
+
+  read_by : {x : Read} → read n fs ≡ x → read (record_kind rec) (fields_of rec) ≡ x
+  unfolding fs
+  read_by q = ap (λ (m : ℕ). read m fs) (sym is) ∙ q
+
+  known : (eqb n 0 || ltb 44 n) ≡ false
+  unfolding n
+  known = or_from _ _ (ne_eqb n 0 (λ e. omega (arith, kind_number-from k))) (le-ltb 44 n (kind_number-to k))
+
+  pub too_few : length (fields_of rec) < get_or least (kind_number k - 1) 0 → Taken rec (Err FieldCount)
+  unfolding read fs n
+  too_few l = refused_by rec FieldCount (read_by (rw (known, lt-ltb (length fs) (get_or least (n - 1) 0) l, read)))
+
+  module _ (enough : get_or least (kind_number k - 1) 0 ≤ length (fields_of rec)) where
+    fixed : ltb (length fs) (get_or least (n - 1) 0) ≡ false
+    unfolding fs n
+    fixed = le-ltb (length fs) (get_or least (n - 1) 0) enough
+
+    pub over_limit : over (fields_of rec) (kind_number k) ≡ true → Taken rec (Err OverLimit)
+    unfolding read fs n
+    over_limit o = refused_by rec OverLimit (read_by (rw (known, fixed, o, read)))
+
+    module _ (o : over (fields_of rec) (kind_number k) ≡ false) where
+      pub not_full : (length (fields_of rec) ≡ filled (fields_of rec) (kind_number k) → ⊥) → Taken rec (Err FieldCount)
+      unfolding read fs n
+      not_full f = refused_by rec FieldCount (read_by (rw (known, fixed, o, ne_eqb (length fs) (filled fs n) f, read)))
+
+      pub asks_edit : length (fields_of rec) ≡ filled (fields_of rec) (kind_number k) → Taken rec (Ok k)
+      unfolding read read_of edit_by edit_of fs n
+      asks_edit full =
+          let passed : Passed n fs = record { from = kind_number-from k; to = kind_number-to k; fixed = enough; limits = o; full = full } in
+          record {
+            same = read_by (rw (known, fixed, o, eq-eqb (length fs) (filled fs n) full, read));
+            kind = λ x q. let e : k ≡ x = cc in sym is ∙ ap kind_number e;
+            passed = λ x q. let e : k ≡ x = cc in subst (λ (x : Kind). Passed (kind_number x) (fields_of rec)) e passed;
+          }

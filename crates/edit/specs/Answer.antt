@@ -1,7 +1,11 @@
 -- The answer record: a refusal, or 0 with the numbers A and B. Assumes nothing: these are definitions.
-use Rattle.std.specs.Prelude.{◌≡◌, List, ℕ, ◌+◌, ◌*◌, ◌≤◌, ◌<◌, length, get_or}
-use Rattle.edit.specs.declared.Answer.{Answer}
-use Rattle.edit.specs.declared.Answer.TheVariants.{Accepted, Refused}
+use Rattle.std.specs.Prelude.{◌≡◌, List, ℕ, ◌+◌, ◌*◌, ◌≤◌, ◌<◌, length, get_or, Result, Ok, Err}
+use Rattle.edit.specs.Kinds.{number_of}
+use Rattle.edit.specs.declared.Refusal.{Refusal}
+
+-- A and B of an accepted edit, or the refusal
+abbrev pub Answer : Type 0
+Answer = Result (ℕ × ℕ) Refusal
 
 pub record Reply : Type 0 where
   pub refusal : ℕ
@@ -19,8 +23,8 @@ found v n = record { refusal = 0; a = v; b = n }
 
 -- the three numbers of each case of the answer
 unfoldable pub numbers_of : Answer → Reply
-numbers_of (Accepted a b) = found a b
-numbers_of (Refused n) = refuse n
+numbers_of (Ok (a, b)) = found a b
+numbers_of (Err r) = refuse (number_of r)
 
 -- three numbers as a reply
 abbrev pub numbers : ℕ → ℕ → ℕ → Reply

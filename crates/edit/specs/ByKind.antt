@@ -1,28 +1,9 @@
 -- The edit of each kind in terms of the record's fields, one line to a shape: operands and successors, results and
 -- arguments, operations and blocks differ in a parameter. Assumes nothing: these are definitions.
 use Rattle.std.specs.Prelude.{◌≡◌, List, ℕ, ◌+◌, get_or, drop}
-use Rattle.edit.specs.Record.{Slot, operand, successor, Member, operation, block, the_operation, the_block, the_region, new_operation, new_block, push_use, insert_use, replace_use, remove_use, pop_use, push_value, insert_value, remove_value, pop_value, link_after, link_before, link_front, link_back, unlink, move_region, move_use, replace_some, retarget_some, drop_uses, erase_operation, erase_block, erase_region, verdict, part}
+use Rattle.edit.specs.Record.{Slot, Member, the_operation, the_block, the_region, new_operation, new_block, push_use, insert_use, replace_use, remove_use, pop_use, push_value, insert_value, remove_value, pop_value, link_after, link_before, link_front, link_back, unlink, move_region, move_use, replace_some, retarget_some, drop_uses, erase_operation, erase_block, erase_region, verdict, part}
+use Rattle.edit.specs.Kinds.{use_kinds, value_kinds, link_kinds, move_kind}
 use Rattle.edit.specs.Taken.{edit_of}
-
--- the first of the five kinds on operands or successors
-abbrev pub use_kinds : Slot → ℕ
-use_kinds operand = 3
-use_kinds successor = 8
-
--- the first of the four kinds on results or arguments
-abbrev pub value_kinds : Member → ℕ
-value_kinds operation = 13
-value_kinds block = 17
-
--- the first of the five kinds that link and unlink operations or blocks
-abbrev pub link_kinds : Member → ℕ
-link_kinds operation = 21
-link_kinds block = 26
-
--- the kind that moves a use of a value or of a block
-abbrev pub move_kind : Slot → ℕ
-move_kind operand = 32
-move_kind successor = 33
 
 module _ (fs : List ℕ) where
   abbrev f₀ : ℕ

@@ -1,4 +1,5 @@
 pub mod Record
+pub mod Kinds
 pub mod Taken
 pub mod ByKind
 pub mod Answer

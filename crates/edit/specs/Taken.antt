@@ -1,11 +1,11 @@
 -- An edit record in its bytes: where the kind and the fields stand, what the search for the next record says, and what
 -- reading a whole record says. Assumes nothing: these are definitions.
-use Rattle.std.specs.Prelude.{◌≡◌, false, List, [], ℕ, ◌+◌, ◌-◌, ◌*◌, ◌%◌, ◌≤◌, length, get_or, take, drop}
+use Rattle.std.specs.Prelude.{◌≡◌, false, List, [], ℕ, ◌+◌, ◌-◌, ◌*◌, ◌%◌, ◌≤◌, length, get_or, take, drop, Result, Ok, Err, Option, Some, None}
 use Rattle.edit.specs.Record.{Edit, new_block, Cut, nothing, broken, whole, cut, words, least, over, filled, edits, Read, refused, asks, read}
-use Rattle.edit.specs.declared.Next.{Next}
-use Rattle.edit.specs.declared.Next.TheVariants.{Nothing, Broken, Whole}
-use Rattle.edit.specs.declared.Reading.{Reading}
-use Rattle.edit.specs.declared.Reading.TheVariants.{Refused, Asks}
+use Rattle.edit.specs.Kinds.{number_of, kind_number}
+use Rattle.edit.specs.declared.Refusal.{Refusal}
+use Rattle.edit.specs.declared.Refusal.TheVariants.{Malformed}
+use Rattle.edit.specs.declared.Kind.{Kind}
 
 -- the kind in a record's bytes: the third and the fourth, the lower first
 unfoldable pub record_kind : List ℕ → ℕ
@@ -23,11 +23,11 @@ number_at l p = get_or l p 0 + 256 * get_or l (p + 1) 0 + 65536 * get_or l (p + 
 abbrev pub record_at : List ℕ → ℕ → ℕ → List ℕ
 record_at bytes at end = take (end - at) (drop at bytes)
 
--- the cut that each case of `Next` stands for
-unfoldable pub cut_of : List ℕ → ℕ → Next → Cut
-cut_of bytes at Nothing = nothing
-cut_of bytes at Broken = broken
-cut_of bytes at (Whole end) = whole (record_kind (record_at bytes at end)) (fields_of (record_at bytes at end)) (drop end bytes)
+-- the cut that each result of the search stands for: no byte, a refusal, or where a whole record ends
+unfoldable pub cut_of : List ℕ → ℕ → Result (Option ℕ) Refusal → Cut
+cut_of bytes at (Ok None) = nothing
+cut_of bytes at (Ok (Some end)) = whole (record_kind (record_at bytes at end)) (fields_of (record_at bytes at end)) (drop end bytes)
+cut_of bytes at (Err r) = broken
 
 -- a whole record lies from at up to end
 pub record Lies (bytes : List ℕ) (at end : ℕ) : Type 0 where
@@ -36,19 +36,24 @@ pub record Lies (bytes : List ℕ) (at end : ℕ) : Type 0 where
   pub short : end ≤ at + 2048
   pub fours : (end - at) % 4 ≡ 0
 
--- what the search at a position says: it is the cut of the bytes from there on, and a whole record lies in the bytes
-pub record NextCut (bytes : List ℕ) (at : ℕ) (r : Next) : Type 0 where
+-- what the search at a position says: it is the cut of the bytes from there on, a whole record lies in the bytes, and
+-- the one refusal is 1
+pub record NextCut (bytes : List ℕ) (at : ℕ) (r : Result (Option ℕ) Refusal) : Type 0 where
   pub same : cut (drop at bytes) ≡ cut_of bytes at r
-  pub lies : (end : ℕ) → r ≡ Whole end → Lies bytes at end
+  pub lies : (end : ℕ) → r ≡ Ok (Some end) → Lies bytes at end
+  pub broken : (e : Refusal) → r ≡ Err e → e ≡ Malformed
 
 -- the edit of a kind from its fields; for a kind given as a numeral it computes
 unfoldable pub edit_of : ℕ → List ℕ → Edit
 edit_of kind fs = get_or (edits fs) (kind - 1) (new_block [])
 
--- what each case of `Reading` stands for
-unfoldable pub read_of : List ℕ → Reading → Read
-read_of fs (Refused n) = refused n
-read_of fs (Asks kind) = asks (edit_of kind fs)
+unfoldable pub edit_by : Kind → List ℕ → Edit
+edit_by k fs = edit_of (kind_number k) fs
+
+-- what each result of reading stands for
+unfoldable pub read_of : List ℕ → Result Kind Refusal → Read
+read_of fs (Ok k) = asks (edit_by k fs)
+read_of fs (Err r) = refused (number_of r)
 
 -- a record of this kind passed refusals 2 to 4
 pub record Passed (kind : ℕ) (fs : List ℕ) : Type 0 where
@@ -59,10 +64,10 @@ pub record Passed (kind : ℕ) (fs : List ℕ) : Type 0 where
   pub full : length fs ≡ filled fs kind
 
 -- what reading a whole record says: the same as `read`, and for an edit that its kind is the record's and passed
-pub record Taken (bytes : List ℕ) (r : Reading) : Type 0 where
+pub record Taken (bytes : List ℕ) (r : Result Kind Refusal) : Type 0 where
   pub same : read (record_kind bytes) (fields_of bytes) ≡ read_of (fields_of bytes) r
-  pub kind : (k : ℕ) → r ≡ Asks k → record_kind bytes ≡ k
-  pub passed : (k : ℕ) → r ≡ Asks k → Passed k (fields_of bytes)
+  pub kind : (k : Kind) → r ≡ Ok k → record_kind bytes ≡ kind_number k
+  pub passed : (k : Kind) → r ≡ Ok k → Passed (kind_number k) (fields_of bytes)
 
 -- the fields of a new operation that passed: its flags and counts are in their limits, and three lists follow them
 pub record OperationFields (fs : List ℕ) : Type 0 where

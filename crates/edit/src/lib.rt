@@ -6,29 +6,167 @@
 
 ghost use Rattle.std.specs.Prelude.{◌≡◌, true, false, ◌+◌, ◌-◌, ◌*◌, ◌≤◌, ◌<◌, length, get_or};
 ghost use Rattle.edit.specs.Answer.{Put, numbers, numbers_of};
+ghost use Rattle.edit.specs.Kinds.{number_of, kind_number, Names};
 ghost use Rattle.edit.specs.Record.{least, over, filled};
 ghost use Rattle.edit.specs.Taken.{NextCut, Taken, record_kind, fields_of, number_at};
 
-// The answer to one edit: A and B of an accepted edit, or the number of the refusal.
-#[derive(Clone, Copy)]
-pub enum Answer {
-    Accepted(u32, u32),
-    Refused(u32),
+// Why something is refused; the numbers are the document's, from 1 in this order.
+#[derive(Clone, Copy, Debug, PartialEq, Eq)]
+pub enum Refusal {
+    Malformed = 1,
+    UnknownKind,
+    FieldCount,
+    OverLimit,
+    Capacity,
+    Unsound,
+    NoOperation,
+    NoBlock,
+    NoRegion,
+    NoValue,
+    NoUse,
+    NoIndex,
+    Used,
+    UsedInside,
+    Linked,
+    Unlinked,
+    InsideItself,
+    StrayUser,
+    ListFull,
+    NoPlace,
+    NoNumber,
+    NoRoom,
 }
 
-// What stands at a position: no byte, a record that gets refusal 1, or a whole record and where it ends.
-#[derive(Clone, Copy)]
-pub enum Next {
-    Nothing,
-    Broken,
-    Whole(usize),
+impl Refusal {
+    // The document's number.
+    pub fn number(self) -> u32
+        ensures { result ≡ number_of self }
+    {
+        self as u32
+    }
 }
 
-// A whole record read: refusal 2, 3 or 4, or the kind of the edit that it asks for.
-#[derive(Clone, Copy)]
-pub enum Reading {
-    Refused(u32),
-    Asks(u32),
+impl From<Refusal> for u32 {
+    ghost from_gives = { λ r n. n ≡ number_of r };
+
+    fn from(refusal: Refusal) -> u32 {
+        refusal.number()
+    }
+}
+
+// A and B of an accepted edit, or the refusal.
+pub type Answer = Result<(u32, u32), Refusal>;
+
+// Which of an operation's two lists of uses.
+#[derive(Clone, Copy, Debug, PartialEq, Eq)]
+pub enum Slot {
+    Operand,
+    Successor,
+}
+
+// What stands in lists and owns values: results or arguments.
+#[derive(Clone, Copy, Debug, PartialEq, Eq)]
+pub enum Member {
+    Operation,
+    Block,
+}
+
+// What has an inside.
+#[derive(Clone, Copy, Debug, PartialEq, Eq)]
+pub enum Nested {
+    Operation,
+    Block,
+    Region,
+}
+
+// The kinds of edits.
+#[derive(Clone, Copy, Debug, PartialEq, Eq)]
+pub enum Kind {
+    NewOperation,
+    NewBlock,
+    PushUse(Slot),
+    InsertUse(Slot),
+    ReplaceUse(Slot),
+    RemoveUse(Slot),
+    PopUse(Slot),
+    PushValue(Member),
+    InsertValue(Member),
+    RemoveValue(Member),
+    PopValue(Member),
+    LinkAfter(Member),
+    LinkBefore(Member),
+    LinkFront(Member),
+    LinkBack(Member),
+    Unlink(Member),
+    MoveRegion,
+    MoveUse(Slot),
+    ReplaceSome,
+    RetargetSome,
+    DropUses(Nested),
+    Erase(Member),
+    EraseRegion,
+    Verdict(Nested),
+}
+
+// The kinds by their numbers, from kind 1 on.
+const KINDS: [Kind; 44] = [
+    Kind::NewOperation,
+    Kind::NewBlock,
+    Kind::PushUse(Slot::Operand),
+    Kind::InsertUse(Slot::Operand),
+    Kind::ReplaceUse(Slot::Operand),
+    Kind::RemoveUse(Slot::Operand),
+    Kind::PopUse(Slot::Operand),
+    Kind::PushUse(Slot::Successor),
+    Kind::InsertUse(Slot::Successor),
+    Kind::ReplaceUse(Slot::Successor),
+    Kind::RemoveUse(Slot::Successor),
+    Kind::PopUse(Slot::Successor),
+    Kind::PushValue(Member::Operation),
+    Kind::InsertValue(Member::Operation),
+    Kind::RemoveValue(Member::Operation),
+    Kind::PopValue(Member::Operation),
+    Kind::PushValue(Member::Block),
+    Kind::InsertValue(Member::Block),
+    Kind::RemoveValue(Member::Block),
+    Kind::PopValue(Member::Block),
+    Kind::LinkAfter(Member::Operation),
+    Kind::LinkBefore(Member::Operation),
+    Kind::LinkFront(Member::Operation),
+    Kind::LinkBack(Member::Operation),
+    Kind::Unlink(Member::Operation),
+    Kind::LinkAfter(Member::Block),
+    Kind::LinkBefore(Member::Block),
+    Kind::LinkFront(Member::Block),
+    Kind::LinkBack(Member::Block),
+    Kind::Unlink(Member::Block),
+    Kind::MoveRegion,
+    Kind::MoveUse(Slot::Operand),
+    Kind::MoveUse(Slot::Successor),
+    Kind::ReplaceSome,
+    Kind::RetargetSome,
+    Kind::DropUses(Nested::Operation),
+    Kind::DropUses(Nested::Block),
+    Kind::DropUses(Nested::Region),
+    Kind::Erase(Member::Operation),
+    Kind::Erase(Member::Block),
+    Kind::EraseRegion,
+    Kind::Verdict(Nested::Operation),
+    Kind::Verdict(Nested::Block),
+    Kind::Verdict(Nested::Region),
+];
+
+impl TryFrom<u32> for Kind {
+    type Error = Refusal;
+
+    ghost try_from_gives = { Names };
+
+    fn try_from(number: u32) -> Result<Kind, Refusal> {
+        if number == 0 || LAST_KIND < number {
+            return Err(Refusal::UnknownKind);
+        }
+        Ok(KINDS[number as usize - 1])
+    }
 }
 
 // The longest record, in bytes.
@@ -72,26 +210,11 @@ const LEAST: [u8; 44] = [
     1, 1, 1,
 ];
 
-fn wide(x: u8) -> u32
-    ensures { (result ≡ x) × (result < 256) }
-{
-    x as u32
-}
-
-fn size(x: u8) -> usize
-    ensures { result ≡ x }
-{
-    x as usize
-}
-
 // Byte `i`, or 0 past the end.
 fn byte(b: &[u8], i: usize) -> u32
     ensures { (result ≡ get_or b.now i 0) × (result < 256) }
 {
-    if b.len() <= i {
-        return 0;
-    }
-    wide(b[i])
+    b.get(i).map_or(0, |x| u32::from(*x))
 }
 
 // The 32-bit number whose lowest byte is byte `p`.
@@ -99,37 +222,29 @@ pub fn number(b: &[u8], p: usize) -> u32
     requires { p + 4 ≤ length b.now }
     ensures { result ≡ number_at b.now p }
 {
-    wide(b[p]) + 256 * wide(b[p + 1]) + 65536 * wide(b[p + 2]) + 16777216 * wide(b[p + 3])
+    u32::from_le_bytes([b[p], b[p + 1], b[p + 2], b[p + 3]])
 }
 
-// The record at `at`, or why there is none. A script and a single edit both find their records by it.
-pub fn next_record(bytes: &[u8], at: usize) -> Next
+// Where the record at `at` ends, or `None` where no byte is left, or refusal 1. A script and a single edit both find
+// their records by it.
+pub fn next_record(bytes: &[u8], at: usize) -> Result<Option<usize>, Refusal>
     ensures { NextCut bytes.now at result }
 {
-    if bytes.len() <= at {
-        return Next::Nothing;
+    let left = bytes.len().saturating_sub(at);
+    if left == 0 {
+        return Ok(None);
     }
-    let left = bytes.len() - at;
     if left < 4 {
-        return Next::Broken;
+        return Err(Refusal::Malformed);
     }
     let n = (byte(bytes, at) + 256 * byte(bytes, at + 1)) as usize;
-    if n < 4 {
-        return Next::Broken;
+    if n < 4 || LONGEST < n || n % 4 != 0 || left < n {
+        return Err(Refusal::Malformed);
     }
-    if LONGEST < n {
-        return Next::Broken;
-    }
-    if n % 4 != 0 {
-        return Next::Broken;
-    }
-    if left < n {
-        return Next::Broken;
-    }
-    Next::Whole(at + n)
+    Ok(Some(at + n))
 }
 
-// The kind of a record.
+// The kind of a record, as its bytes have it.
 pub fn kind_of(rec: &[u8]) -> u32
     ensures { result ≡ record_kind rec.now }
 {
@@ -140,10 +255,7 @@ pub fn kind_of(rec: &[u8]) -> u32
 pub fn field_count(rec: &[u8]) -> usize
     ensures { result ≡ length (fields_of rec.now) }
 {
-    if rec.len() < 4 {
-        return 0;
-    }
-    (rec.len() - 4) / 4
+    rec.len().saturating_sub(4) / 4
 }
 
 // Field `i` of a record, or 0 where it has no such field.
@@ -156,105 +268,67 @@ pub fn field(rec: &[u8], i: usize) -> u32
     number(rec, 4 + 4 * i)
 }
 
-fn least_fields(kind: usize) -> usize
-    requires le_kind { 1 ≤ kind }
-    requires kind_bound { kind ≤ 44 }
-    ensures { result ≡ get_or least (kind - 1) 0 }
+fn least_fields(number: u32) -> usize
+    requires le_kind { 1 ≤ number }
+    requires kind_bound { number ≤ 44 }
+    ensures { result ≡ get_or least (number - 1) 0 }
 {
-    size(LEAST[kind - 1])
+    usize::from(LEAST[number as usize - 1])
 }
 
 // Whether the flags or a count of a new operation are over their limits.
 fn counts_over(rec: &[u8]) -> bool
     ensures { result ≡ over (fields_of rec.now) 1 }
 {
-    if 3 < field(rec, 0) {
-        return true;
-    }
-    if MOST_ENTRIES < field(rec, 1) {
-        return true;
-    }
-    if MOST_ENTRIES < field(rec, 2) {
-        return true;
-    }
-    if MOST_ENTRIES < field(rec, 3) {
-        return true;
-    }
-    MOST_ENTRIES < field(rec, 4)
+    3 < field(rec, 0) || (1..5).any(|i| MOST_ENTRIES < field(rec, i))
 }
 
 // Whether a record's flags, counts or listed numbers are over their limits.
-fn is_over(rec: &[u8], kind: u32) -> bool
-    ensures { result ≡ over (fields_of rec.now) kind }
+fn is_over(rec: &[u8], kind: Kind) -> bool
+    ensures { result ≡ over (fields_of rec.now) (kind_number kind) }
 {
-    if kind == 1 {
-        return counts_over(rec);
+    match kind {
+        Kind::NewOperation => counts_over(rec),
+        Kind::NewBlock => MOST_ENTRIES < field(rec, 0),
+        Kind::ReplaceSome | Kind::RetargetSome => MOST_FIELDS < field_count(rec),
+        _ => false,
     }
-    if kind == 2 {
-        return MOST_ENTRIES < field(rec, 0);
-    }
-    if kind == 34 {
-        return MOST_FIELDS < field_count(rec);
-    }
-    if kind == 35 {
-        return MOST_FIELDS < field_count(rec);
-    }
-    false
 }
 
 // How many fields fill a record of this kind, whose least field count is `fixed`.
-fn filled_by(rec: &[u8], kind: u32, fixed: usize) -> usize
-    requires { fixed ≡ get_or least (kind - 1) 0 }
-    ensures { result ≡ filled (fields_of rec.now) kind }
+fn filled_by(rec: &[u8], kind: Kind, fixed: usize) -> usize
+    requires { fixed ≡ get_or least (kind_number kind - 1) 0 }
+    ensures { result ≡ filled (fields_of rec.now) (kind_number kind) }
 {
-    if kind == 1 {
-        return 5 + (field(rec, 1) as usize) + (field(rec, 2) as usize) + (field(rec, 3) as usize);
+    match kind {
+        Kind::NewOperation => fixed
+            + field(rec, 1) as usize
+            + field(rec, 2) as usize
+            + field(rec, 3) as usize,
+        Kind::NewBlock => fixed + field(rec, 0) as usize,
+        Kind::ReplaceSome | Kind::RetargetSome => field_count(rec),
+        _ => fixed,
     }
-    if kind == 2 {
-        return 1 + (field(rec, 0) as usize);
-    }
-    if kind == 34 {
-        return field_count(rec);
-    }
-    if kind == 35 {
-        return field_count(rec);
-    }
-    fixed
 }
 
 // Reads a whole record: refusals 2 to 4 in their order, or the kind of its edit.
-pub fn read_record(rec: &[u8]) -> Reading
+pub fn read_record(rec: &[u8]) -> Result<Kind, Refusal>
     ensures { Taken rec.now result }
 {
-    let kind = kind_of(rec);
-    if kind == 0 {
-        return Reading::Refused(2);
-    }
-    if LAST_KIND < kind {
-        return Reading::Refused(2);
-    }
-    let fixed = least_fields(kind as usize);
+    let number = kind_of(rec);
+    let kind = Kind::try_from(number)?;
+    let fixed = least_fields(number);
     let count = field_count(rec);
     if count < fixed {
-        return Reading::Refused(3);
+        return Err(Refusal::FieldCount);
     }
     if is_over(rec, kind) {
-        return Reading::Refused(4);
+        return Err(Refusal::OverLimit);
     }
     if count != filled_by(rec, kind, fixed) {
-        return Reading::Refused(3);
+        return Err(Refusal::FieldCount);
     }
-    Reading::Asks(kind)
-}
-
-fn put_numbers(out: &mut [u32], k: usize, refusal: u32, a: u32, b: u32)
-    requires { 3 * k + 3 ≤ length out.old }
-    ensures { Put out.old out.new k (numbers refusal a b) }
-{
-    let i = 3 * k;
-    out[i] = refusal;
-    out[i + 1] = a;
-    out[i + 2] = b;
+    Ok(kind)
 }
 
 // Writes answer `k` into its three words; the other words keep what they hold.
@@ -262,8 +336,12 @@ pub fn put_answer(out: &mut [u32], k: usize, answer: Answer)
     requires { 3 * k + 3 ≤ length out.old }
     ensures { Put out.old out.new k (numbers_of answer) }
 {
-    match answer {
-        Answer::Accepted(a, b) => put_numbers(out, k, 0, a, b),
-        Answer::Refused(n) => put_numbers(out, k, n, 0, 0),
-    }
+    let (refusal, a, b) = match answer {
+        Ok((a, b)) => (0, a, b),
+        Err(refusal) => (refusal.number(), 0, 0),
+    };
+    let i = 3 * k;
+    out[i] = refusal;
+    out[i + 1] = a;
+    out[i + 2] = b;
 }

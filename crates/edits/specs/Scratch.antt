@@ -1,7 +1,7 @@
 -- The scratch that is lent to an edit, and an edit put to a store with it. Assumes nothing: these are definitions.
 use Rattle.std.specs.Prelude.{◌≡◌, List, ℕ, ◌≤◌, length, replicate}
 use Rattle.edit.specs.Record.{Edit}
-use Rattle.edit.specs.declared.Answer.{Answer}
+use Rattle.edit.specs.Answer.{Answer}
 use Rattle.context.specs.declared.Layout.{Layout}
 use Rattle.context.specs.Performed.{Performed}
 

@@ -1,13 +1,14 @@
 -- What the exported functions answer, and what every lent buffer holds after them. Assumes nothing: these are definitions.
 use Rattle.std.specs.Prelude.{◌≡◌, List, ◌++◌, ℕ, ◌/◌, ◌≤◌, ◌<◌, length, drop, replicate}
 use Rattle.edit.specs.Record.{Definition}
-use Rattle.edit.specs.Answer.{Put, numbers_of}
-use Rattle.edit.specs.declared.Answer.{Answer}
+use Rattle.edit.specs.Kinds.{code_of}
+use Rattle.edit.specs.Answer.{Answer, Put, numbers_of}
 use Rattle.rules.specs.Listing.{edit_lines, listing}
 use Rattle.context.specs.declared.Layout.{Layout}
+use Rattle.context.specs.Layout.{total, Caps}
 use Rattle.context.specs.Memory.{layout_of}
 use Rattle.context.specs.Performed.{abs}
-use Rattle.script.specs.Calls.{SoundWords, Edited}
+use Rattle.script.specs.Calls.{SoundWords, Edited, Scripted}
 use Rattle.script.specs.declared.Ran.{Ran}
 use Rattle.listing.specs.Writer.{Written}
 use Rattle.listing.specs.Lines.{replies_from}
@@ -17,13 +18,14 @@ use Rattle.readers.specs.UsesOf.{use_refusal_of, handed}
 abbrev pub layout_by : ℕ → ℕ → ℕ → ℕ → ℕ → Layout
 layout_by o b r v u = record { ops = o; blocks = b; regions = r; values = v; uses = u }
 
--- a script's code and count of answers
-abbrev pub ran_by : ℕ → ℕ → Ran
-ran_by c n = record { code = c; count = n }
+-- r is how many words a store needs: 0 where no store has these capacities
+pub record WordsCalled (l : Layout) (r : ℕ) : Type 0 where
+  pub is : Caps l → r ≡ total l
+  pub none : (Caps l → ⊥) → r ≡ 0
 
 -- an answer was told: its refusal is returned, and its three numbers stand in front of out'; for 6 no answer is written
 pub record ToldAnswer (a : Answer) (out out' : List ℕ) (r : ℕ) : Type 0 where
-  pub code : r ≡ (numbers_of a).refusal
+  pub code : r ≡ code_of a
   pub kept : r ≡ 6 → out' ≡ out
   pub put : (r ≡ 6 → ⊥) → Put out out' 0 (numbers_of a)
 
@@ -37,6 +39,13 @@ pub record EditDone (bytes m m' s s' out out' : List ℕ) (r : ℕ) : Type 0 whe
 pub record EditCalled (bytes m m' s s' out out' : List ℕ) (r : ℕ) : Type 0 where
   pub short : length out < 3 → (r ≡ 22) × (m' ≡ m) × (s' ≡ replicate (length s) 0) × (out' ≡ out)
   pub done : 3 ≤ length out → EditDone bytes m m' s s' out out' r
+
+-- a script was put to the store: r is the number that stopped it, or 0, and n how many answers it wrote
+pub record ScriptCalled (bytes m m' s s' out out' : List ℕ) (n r : ℕ) : Type 0 where
+  pub ran : Ran
+  pub scripted : Scripted bytes m m' s s' out out' ran
+  pub code : r ≡ code_of ran.end
+  pub count : n ≡ ran.count
 
 -- how many answers a listing may have: their numbers are 32-bit ones. More would fill over 51 gigabytes, which in practice nobody lends
 abbrev pub most_answers : ℕ

@@ -3,15 +3,16 @@
 
 ghost use Rattle.std.specs.Prelude.{◌≡◌, ◌≤◌, length};
 ghost use Rattle.seqs.specs.Seqs.{Says};
-ghost use Rattle.edit.specs.Answer.{numbers_of};
-ghost use Rattle.context.specs.Start.{StartIs, WordsNeeded};
-ghost use Rattle.script.specs.Calls.{SoundWords, Scripted};
-ghost use Rattle.readers.specs.UsesOf.{definition_by, refusal_in, count_in};
-ghost use Rattle.ffi.specs.Called.{layout_by, ran_by, ToldAnswer, EditCalled, Listed, UsesCalled};
+ghost use Rattle.edit.specs.Kinds.{code_of};
+ghost use Rattle.edit.specs.Record.{of_value, of_block};
+ghost use Rattle.context.specs.Start.{StartBy};
+ghost use Rattle.script.specs.Calls.{SoundWords};
+ghost use Rattle.readers.specs.UsesOf.{count_in};
+ghost use Rattle.ffi.specs.Called.{layout_by, WordsCalled, ToldAnswer, EditCalled, ScriptCalled, Listed, UsesCalled};
 
 use context::Layout;
-use edit::Answer;
-use readers::Uses;
+use edit::{Answer, Refusal};
+use readers::Definition;
 
 // The capacities as the store takes them.
 fn layout(ops: u32, blocks: u32, regions: u32, values: u32, uses: u32) -> Layout
@@ -26,13 +27,22 @@ fn layout(ops: u32, blocks: u32, regions: u32, values: u32, uses: u32) -> Layout
     }
 }
 
+// The number of a refusal, or 0.
+fn code<T: Copy>(r: Result<T, Refusal>) -> u32
+    ensures { result ≡ code_of r }
+{
+    match r {
+        Ok(_) => 0,
+        Err(refusal) => refusal.number(),
+    }
+}
+
 // How many words a store with these capacities needs; 0 where a capacity is 0 or over its limit.
 #[unsafe(no_mangle)]
 pub extern "C" fn recipe_words(ops: u32, blocks: u32, regions: u32, values: u32, uses: u32) -> usize
-    ensures { WordsNeeded (layout_by ops blocks regions values uses) result }
+    ensures { WordsCalled (layout_by ops blocks regions values uses) result }
 {
-    let l = layout(ops, blocks, regions, values, uses);
-    context::words_needed(l)
+    context::words_needed(layout(ops, blocks, regions, values, uses)).unwrap_or(0)
 }
 
 // Starts an empty store: 0 or 5.
@@ -45,20 +55,9 @@ pub extern "C" fn recipe_start(
     values: u32,
     uses: u32,
 ) -> u32
-    ensures { StartIs (layout_by ops blocks regions values uses) store.old store.new result }
+    ensures { StartBy (layout_by ops blocks regions values uses) store.old store.new result }
 {
-    let l = layout(ops, blocks, regions, values, uses);
-    context::start(store, l)
-}
-
-// The refusal of an answer, or 0.
-fn refusal_in(a: Answer) -> u32
-    ensures { result ≡ (numbers_of a).refusal }
-{
-    match a {
-        Answer::Accepted(_, _) => 0,
-        Answer::Refused(n) => n,
-    }
+    code(context::start(store, layout(ops, blocks, regions, values, uses)))
 }
 
 // The refusal of an answer, and its three numbers in `out`; for 6 nothing is written.
@@ -66,12 +65,12 @@ fn tell_answer(a: Answer, out: &mut [u32]) -> u32
     requires { 3 ≤ length out.old }
     ensures { ToldAnswer a out.old out.new result }
 {
-    let n = refusal_in(a);
-    if n == 6 {
-        return n;
+    let refusal = code(a);
+    if refusal == Refusal::Unsound.number() {
+        return refusal;
     }
     edit::put_answer(out, 0, a);
-    n
+    refusal
 }
 
 // One edit: its refusal or 0, and its three numbers in `answer`. 22 where `answer` has no room for them, before anything is
@@ -86,11 +85,10 @@ pub extern "C" fn recipe_edit(
     ensures { EditCalled bytes.now store.old store.new scratch.old scratch.new answer.old answer.new result }
 {
     if answer.len() < 3 {
-        script::clear(scratch);
-        return 22;
+        scratch.fill(0);
+        return Refusal::NoRoom.number();
     }
-    let a = script::edit(store, scratch, bytes);
-    tell_answer(a, answer)
+    tell_answer(script::edit(store, scratch, bytes), answer)
 }
 
 // A script: its code, and in `count` how many answers it wrote.
@@ -102,11 +100,11 @@ pub extern "C" fn recipe_script(
     answers: &mut [u32],
     count: &mut u64,
 ) -> u32
-    ensures { Scripted script.now store.old store.new scratch.old scratch.new answers.old answers.new (ran_by result count.new) }
+    ensures { ScriptCalled script.now store.old store.new scratch.old scratch.new answers.old answers.new count.new result }
 {
-    let r = script::script(store, scratch, script, answers);
-    *count = r.count as u64;
-    r.code
+    let ran = script::script(store, scratch, script, answers);
+    *count = ran.count as u64;
+    code(ran.end)
 }
 
 // Whether a buffer is a sound store.
@@ -129,14 +127,13 @@ pub extern "C" fn recipe_listing(
     ensures { Listed store.now answers.now out.old out.new length.new result }
 {
     *length = 0;
-    let good = sound::check(store);
-    if !good {
-        return 6;
+    if !sound::check(store) {
+        return Refusal::Unsound.number();
     }
     let l = context::layout_of(store);
     let n = answers.len() / 3;
     if n > 4294967295 {
-        return 22;
+        return Refusal::NoRoom.number();
     }
     let a = listing::write_answers(answers, n, out, 0);
     let b = listing::write_listing(store, l, out, a);
@@ -145,19 +142,11 @@ pub extern "C" fn recipe_listing(
 }
 
 // The uses of a value or a block into the caller's buffer: 0 and their count, or the refusal.
-fn tell_uses(r: Uses, count: &mut u64) -> u32
-    ensures { (result ≡ refusal_in r) × (count.new ≡ count_in r) }
+fn tell_uses(r: Result<usize, Refusal>, count: &mut u64) -> u32
+    ensures { (result ≡ code_of r) × (count.new ≡ count_in r) }
 {
-    match r {
-        Uses::Filled(n) => {
-            *count = n as u64;
-            0
-        }
-        Uses::Refused(n) => {
-            *count = 0;
-            n
-        }
-    }
+    *count = r.unwrap_or(0) as u64;
+    code(r)
 }
 
 // The numbers of a value's uses, rising, in front of `uses`; `count` gets how many. 6, 10 or 22 where refused, and then `uses` is kept.
@@ -168,10 +157,12 @@ pub extern "C" fn recipe_value_uses(
     uses: &mut [u32],
     count: &mut u64,
 ) -> u32
-    ensures { UsesCalled store.now (definition_by 0 value) uses.old uses.new count.new result }
+    ensures { UsesCalled store.now (of_value value) uses.old uses.new count.new result }
 {
-    let r = readers::uses_of(store, 0, value, uses);
-    tell_uses(r, count)
+    tell_uses(
+        readers::uses_of(store, Definition::Value(value), uses),
+        count,
+    )
 }
 
 // The numbers of a block's uses, likewise. 6, 8 or 22 where refused.
@@ -182,8 +173,10 @@ pub extern "C" fn recipe_block_uses(
     uses: &mut [u32],
     count: &mut u64,
 ) -> u32
-    ensures { UsesCalled store.now (definition_by 1 block) uses.old uses.new count.new result }
+    ensures { UsesCalled store.now (of_block block) uses.old uses.new count.new result }
 {
-    let r = readers::uses_of(store, 1, block, uses);
-    tell_uses(r, count)
+    tell_uses(
+        readers::uses_of(store, Definition::Block(block), uses),
+        count,
+    )
 }

@@ -13,11 +13,12 @@ use lib.Dec.{eqb}
 use borrow.Author.Tests.{eqb-true, eqb-false}
 use Rattle.seqs.specs.Seqs.{Says, seq_insert_at}
 use Rattle.seqs.proofs.Base.{length_insert_at}
-use Rattle.linked_list.specs.Links.{at, place, after, before, home, Row, Free, Held, Linked, lists, walk}
+use Rattle.std.specs.Prelude.{Option, Some, None}
+use Rattle.linked_list.specs.Links.{code, at, place, after, before, home, Row, Free, Held, Linked, lists, walk}
 use Rattle.linked_list.specs.Check.{row_at, tot, RowFound, RowsFound, frees, FreesFound, keep}
-use Rattle.linked_list.proofs.Laws.{at_inj, unshift, at_ins_lt, at_ins_eq, place_ins_le, at_lt, at_out, Spot, spot, left, here, next, right}
+use Rattle.linked_list.proofs.Laws.{at_inj, unshift, at_ins_lt, at_ins_eq, place_ins_le, at_lt, at_out, at_end, Spot, spot, left, here, next, right}
 use Rattle.linked_list.proofs.View.{pigeon, find, out_of, get_d_tab, lists_count, row_is}
-use Rattle.linked_list.proofs.Getters.{at_nil, tail_is}
+use Rattle.linked_list.proofs.Getters.{tail_cell}
 
 -- ---- one chain, read so far: j nodes from c's head, the last of them with the code p, and then the code q
 
@@ -150,24 +151,30 @@ along_more {nc} {nn} {c} {p} {q} {j} {s} A x qe = record {
 
 -- ---- the answers
 
-pub row_fails : {nc nn c b : ℕ} {s : List ℕ} → (Row nc nn s c (row_at nc nn s c) → length (row_at nc nn s c) ≤ b → ⊥) → RowFound nc nn s c b (b + 1)
-row_fails f = record { sound = λ h. absurd (omega arith); complete = λ R h. absurd (f R h) }
+none_some : {k : ℕ} → ◌≡◌ {A = Option ℕ} None (Some k) → ⊥
+none_some e = absurd (omega (arith, ap code e))
 
-pub row_found : {nc nn c b p q j : ℕ} {s : List ℕ} → Part nc nn s c p q j → Along nc nn s c p q j → q ≡ 0 → get_or s (nc + c) 0 ≡ p → RowFound nc nn s c b j
+some_inj : {j k : ℕ} → ◌≡◌ {A = Option ℕ} (Some j) (Some k) → j ≡ k
+some_inj e = suc_inj (ap code e)
+
+pub row_fails : {nc nn c b : ℕ} {s : List ℕ} → (Row nc nn s c (row_at nc nn s c) → length (row_at nc nn s c) ≤ b → ⊥) → RowFound nc nn s c b None
+row_fails f = record { sound = λ k e. absurd (none_some e); complete = λ R h. absurd (f R h) }
+
+pub row_found : {nc nn c b p q j : ℕ} {s : List ℕ} → Part nc nn s c p q j → Along nc nn s c p q j → q ≡ 0 → get_or s (nc + c) 0 ≡ p → j ≤ b → RowFound nc nn s c b (Some j)
 unfolding row_at
-row_found {nc} {nn} {c} {b} {p} {q} {j} {s} P A q0 te =
+row_found {nc} {nn} {c} {b} {p} {q} {j} {s} P A q0 te j≤ =
     let R = part_row P q0 te in
     let same : row_at nc nn s c ≡ P.l = row_is R in
     record {
-      sound = λ h. rw same (R, P.len);
-      complete = λ R' h. sym (ap length same ∙ P.len);
+      sound = λ k e. rw (same, ← some_inj e) (R, P.len, j≤);
+      complete = λ R' h. ap Some (sym (ap length same ∙ P.len));
     }
 
 pub along_tail : {nc nn c p q j : ℕ} {s : List ℕ} → Along nc nn s c p q j → q ≡ 0 → Row nc nn s c (row_at nc nn s c) → get_or s (nc + c) 0 ≡ p
 along_tail {nc} {nn} {c} {p} {q} {j} {s} A q0 R =
     let (pe, e, h) = A.good R in
-    let same : length (row_at nc nn s c) ≡ j = omega (arith, at_nil (row_at nc nn s c) j q e q0) in
-    tail_is R ∙ ap (place (row_at nc nn s c)) same ∙ sym pe
+    let same : length (row_at nc nn s c) ≡ j = omega (arith, at_end (row_at nc nn s c) j (sym e ∙ q0)) in
+    tail_cell R ∙ ap (place (row_at nc nn s c)) same ∙ sym pe
 
 -- ---- all the rows
 
@@ -188,12 +195,12 @@ pub tot_none : (nc nn : ℕ) (s : List ℕ) → 0 ≡ tot nc nn s 0
 unfolding tot
 tot_none nc nn s = refl
 
-pub rows_fail : {nc nn c t r b : ℕ} {s : List ℕ} → RowFound nc nn s c b r → c < nc → t ≡ tot nc nn s c → b ≡ nn - t → b < r → RowsFound nc nn s (nn + 1)
-rows_fail {nc} {nn} {c} {t} {r} {b} {s} F c< e be h = record {
-  sound = λ k. absurd (omega arith);
+pub rows_fail : {nc nn c t b : ℕ} {s : List ℕ} {r : Option ℕ} → RowFound nc nn s c b r → r ≡ None → c < nc → t ≡ tot nc nn s c → b ≡ nn - t → RowsFound nc nn s None
+rows_fail {nc} {nn} {c} {t} {b} {s} F fails c< e be = record {
+  sound = λ k w. absurd (none_some w);
   complete = λ R k.
       let g = tot_lt nc nn s c nc c< in
-      absurd (omega (arith, F.complete (R c c<) (omega arith)));
+      absurd (none_some (sym fails ∙ F.complete (R c c<) (omega arith)));
 }
 
 -- ---- the free nodes
@@ -214,19 +221,19 @@ pub frees_none : (nc nn : ℕ) (s : List ℕ) → length (frees nc nn s 0) ≡ 0
 unfolding frees
 frees_none nc nn s = refl
 
-pub frees_fail : {nc nn n : ℕ} {s : List ℕ} → n < nn → get_or s (home nc nn n) 0 ≡ 0 → (Free nc nn s n → ⊥) → FreesFound nc nn s (nn + 1)
-frees_fail {n = n} n< z f = record { sound = λ k. absurd (omega arith); complete = λ R. absurd (f (R n n< z)) }
+pub frees_fail : {nc nn n : ℕ} {s : List ℕ} → n < nn → get_or s (home nc nn n) 0 ≡ 0 → (Free nc nn s n → ⊥) → FreesFound nc nn s None
+frees_fail {n = n} n< z f = record { sound = λ k e. absurd (none_some e); complete = λ R. absurd (f (R n n< z)) }
 
-pub rows_found : {nc nn c t : ℕ} {s : List ℕ} → c ≡ nc → ((d : ℕ) → d < c → Row nc nn s d (row_at nc nn s d)) → t ≡ tot nc nn s c → RowsFound nc nn s t
-rows_found {nc} {nn} {c} {t} {s} e all te = record {
-  sound = λ h. (λ d k. all d (omega arith), rw e at (sym te));
-  complete = λ R h. rw e at te;
+pub rows_found : {nc nn t : ℕ} {s : List ℕ} → ((d : ℕ) → d < nc → Row nc nn s d (row_at nc nn s d)) → t ≡ tot nc nn s nc → t ≤ nn → RowsFound nc nn s (Some t)
+rows_found all te t≤ = record {
+  sound = λ k e. rw (← some_inj e) (all, sym te, t≤);
+  complete = λ R h. ap Some te;
 }
 
-pub frees_found : {nc nn n f : ℕ} {s : List ℕ} → n ≡ nn → ((m : ℕ) → m < n → get_or s (home nc nn m) 0 ≡ 0 → Free nc nn s m) → length (frees nc nn s n) ≡ f → FreesFound nc nn s f
-frees_found {nc} {nn} {n} {f} {s} e all fe = record {
-  sound = λ h. (λ d k. all d (omega arith), rw e at fe);
-  complete = λ R. rw e at (sym fe);
+pub frees_found : {nc nn f : ℕ} {s : List ℕ} → ((m : ℕ) → m < nn → get_or s (home nc nn m) 0 ≡ 0 → Free nc nn s m) → length (frees nc nn s nn) ≡ f → f ≤ nn → FreesFound nc nn s (Some f)
+frees_found all fe f≤ = record {
+  sound = λ k e. rw (← some_inj e) (all, fe, f≤);
+  complete = λ R. ap Some (sym fe);
 }
 
 -- ---- the count: lists of different numbers
@@ -421,26 +428,31 @@ module _ (nc nn : ℕ) (s : List ℕ) where
           let (d, k, w) = held_of nc nn s rows whole n h f in
           inr (record { cont = d; index = w.0; cont< = k; there = rw (lists_row nc nn s d k) w.1 })
 
-  module _ {t f : ℕ} (Fr : FreesFound nc nn s f) (Rw : RowsFound nc nn s t) where
-    -- too many nodes in the lists, or a node with no container that is not free
-    pub links_no : (nn < t) ⊎ (nn < f) → Linked nc nn s → ⊥
-    links_no h L =
+  module _ {t f : Option ℕ} (Rw : RowsFound nc nn s t) (Fr : FreesFound nc nn s f) where
+    -- where the lists are well linked, both counts are there, and together they are all nodes
+    both_there : Linked nc nn s → (t ≡ Some (tot nc nn s nc)) × (f ≡ Some (length (frees nc nn s nn)))
+    both_there L =
         let a = linked_whole L in
-        let te = Rw.complete (linked_rows L) (omega arith) in
-        let fe = Fr.complete (linked_frees L) in
-        ⊎_elim (λ k. absurd (omega arith)) (λ k. absurd (omega arith)) h
+        (Rw.complete (linked_rows L) (omega arith), Fr.complete (linked_frees L))
 
-    pub links_says : length s ≡ 2 * nc + 3 * nn → t ≤ nn → f ≤ nn → Says (eqb (t + f) nn) (Linked nc nn s)
-    links_says size t≤ f≤ = go (eqb (t + f) nn) refl
+    -- a list is not well formed, or a node with no container is not free
+    pub links_no : (t ≡ None) ⊎ (f ≡ None) → Linked nc nn s → ⊥
+    links_no h L =
+        let (te, fe) = both_there L in
+        ⊎_elim (λ e. none_some (sym e ∙ te)) (λ e. none_some (sym e ∙ fe)) h
+
+    pub links_says : length s ≡ 2 * nc + 3 * nn → (j k : ℕ) → t ≡ Some j → f ≡ Some k → Says (eqb (j + k) nn) (Linked nc nn s)
+    links_says size j k tj fk = go (eqb (j + k) nn) refl
       where
-        go : (b : Bool) → eqb (t + f) nn ≡ b → Says b (Linked nc nn s)
+        go : (b : Bool) → eqb (j + k) nn ≡ b → Says b (Linked nc nn s)
         go true e =
-            let (rows, te) = Rw.sound t≤ in
-            let (free, fe) = Fr.sound f≤ in
-            let w = eqb-true (t + f) nn e in
+            let (rows, te, _) = Rw.sound j tj in
+            let (free, fe, _) = Fr.sound k fk in
+            let w = eqb-true (j + k) nn e in
             linked_of size rows free (omega arith)
         go false e = λ L.
             let a = linked_whole L in
-            let te = Rw.complete (linked_rows L) (omega arith) in
-            let fe = Fr.complete (linked_frees L) in
-            eqb-false (t + f) nn e (omega arith)
+            let (te, fe) = both_there L in
+            let j≡ = some_inj (sym tj ∙ te) in
+            let k≡ = some_inj (sym fk ∙ fe) in
+            eqb-false (j + k) nn e (omega arith)

@@ -12,8 +12,10 @@ use lib.Seq.{ext_get_or, get_or-set_same, get_or-set_other}
 use Rattle.seqs.specs.Seqs.{without}
 use Rattle.seqs.proofs.Parts.{get_d_out}
 use Rattle.linked_list.specs.Links.{at, home, Links, Linked, Rowed, Appended, Emptied, lists, row, container, list_of}
-use Rattle.linked_list.proofs.Laws.{at_lt, at_end}
 use Rattle.linked_list.proofs.View.{lists_is, without_at, seat}
+use Rattle.linked_list.proofs.Getters.{at_some, none_past}
+use Rattle.std.specs.Prelude.{Some, None, slice_get}
+use Rattle.std.proofs.lemmas.List.{get_or-replicate}
 
 -- a node that says a container is one of the nn
 node_lt : (nc nn : ℕ) (s : List ℕ) (n k : ℕ) → length s ≡ 2 * nc + 3 * nn → get_or s (home nc nn n) 0 ≡ suc k → n < nn
@@ -22,38 +24,28 @@ node_lt nc nn s n k size e = by_cases (dec_lt n nn) (λ y. y) (λ y. absurd (ome
 -- ---- moving the first node of one list to the back of another
 
 -- where the loop stands: the two lists together, and every other list, are as they were
-pub record Moved (nc nn : ℕ) (s₀ s : List ℕ) (to from k : ℕ) : Type 0 where
+pub record Moved (nc nn : ℕ) (s₀ s : List ℕ) (to from : ℕ) : Type 0 where
   pub linked : Linked nc nn s
   pub both : row nc nn s to ++ row nc nn s from ≡ row nc nn s₀ to ++ row nc nn s₀ from
   pub others : (d : ℕ) → d ≢ to → d ≢ from → row nc nn s d ≡ row nc nn s₀ d
-  pub first : k ≡ at (row nc nn s from) 0
   pub homes : (m : ℕ) → (get_or s (home nc nn m) 0 ≡ get_or s₀ (home nc nn m) 0) ⊎ ((get_or s₀ (home nc nn m) 0 ≡ suc from) × (get_or s (home nc nn m) 0 ≡ suc to))
 
--- what the loop needs of the node n that k stands for
-pub record Mover (nc nn : ℕ) (s : List ℕ) (from n : ℕ) : Type 0 where
-  pub n< : n < nn
-  pub says : get_or s (home nc nn n) 0 ≡ suc from
-  pub after_n : get_or s (2 * nc + n) 0 ≡ at (row nc nn s from) 1
+module _ {nc nn : ℕ} {s₀ s : List ℕ} {to from : ℕ} (to< : to < nc) (from< : from < nc) (apart : to ≢ from) where
+  -- n is the first node of the list `from`
+  pub mover : Moved nc nn s₀ s to from → (n : ℕ) → slice_get (row nc nn s from) 0 ≡ Some n → (n < nn) × (get_or s (home nc nn n) 0 ≡ suc from)
+  mover M n e = (M.linked.row from from<).own zero n (at_some (row nc nn s from) 0 e)
 
-module _ {nc nn : ℕ} {s₀ s : List ℕ} {to from k : ℕ} (to< : to < nc) (from< : from < nc) (apart : to ≢ from) where
-  pub mover : Moved nc nn s₀ s to from k → (n : ℕ) → k ≡ suc n → Mover nc nn s from n
-  mover M n e =
-      let R = M.linked.row from from< in
-      let w = sym M.first ∙ e in
-      let (a, b) = R.own zero n w in
-      record { n< = a; says = b; after_n = rw w at (R.next 1 (at_lt (row nc nn s from) zero n w)) }
-
-  pub moved_more : Moved nc nn s₀ s to from k → (n : ℕ) → k ≡ suc n → {s₁ s₂ : List ℕ} → Rowed nc nn s s₁ (container nc nn s n) (without ℕ_discrete n (list_of nc nn s n)) n 0
-      → Rowed nc nn s₁ s₂ to (row nc nn s₁ to ++ n ∷ []) n (to + 1) → Moved nc nn s₀ s₂ to from (get_or s (2 * nc + n) 0) × (length (row nc nn s₂ from) < length (row nc nn s from))
+  pub moved_more : Moved nc nn s₀ s to from → (n : ℕ) → slice_get (row nc nn s from) 0 ≡ Some n → {s₁ s₂ : List ℕ} → Rowed nc nn s s₁ (container nc nn s n) (without ℕ_discrete n (list_of nc nn s n)) n 0
+      → Rowed nc nn s₁ s₂ to (row nc nn s₁ to ++ n ∷ []) n (to + 1) → Moved nc nn s₀ s₂ to from × (length (row nc nn s₂ from) < length (row nc nn s from))
   moved_more M n e {s₁} {s₂} R₁ R₂ =
       let L = M.linked in
       let ls = lists nc nn s in
-      let W = mover M n e in
-      let S = seat L from n W.n< W.says in
-      let w : at (get_or ls from []) 0 ≡ suc n = sym M.first ∙ e in
+      let (n<, says) = mover M n e in
+      let S = seat L from n n< says in
+      let w : at (get_or ls from []) 0 ≡ suc n = at_some (row nc nn s from) 0 e in
       let r = without ℕ_discrete n (get_or ls from []) in
       let f : get_or ls from [] ≡ n ∷ r = (without_at n (get_or ls from []) 0 w (λ j g. S.only j g ∙ sym (S.only 0 w))).0 in
-      let ce : container nc nn s n ≡ from = omega (arith, W.says) in
+      let ce : container nc nn s n ≡ from = omega (arith, says) in
       let l₁ : lists nc nn s₁ ≡ set ls from r = R₁.row ∙ ap (λ (c : ℕ). set ls c (without ℕ_discrete n (get_or ls c []))) ce in
       let c₁ : length (set ls from r) ≡ nc = length-set ls from r ∙ L.count in
       let at₁ : (d : ℕ) → d ≢ from → get_or (set ls from r) d [] ≡ get_or ls d [] = λ d o. get_or-set_other ls from d r [] o in
@@ -67,9 +59,8 @@ module _ {nc nn : ℕ} {s₀ s : List ℕ} {to from k : ℕ} (to< : to < nc) (fr
           linked = R₂.linked;
           both = rw (to₂, from₂) (append_assoc (get_or ls to []) (n ∷ []) r ∙ ap (λ (m : List ℕ). get_or ls to [] ++ m) (sym f) ∙ M.both);
           others = λ d o o'. ap (λ (m : List (List ℕ)). get_or m d []) l₂ ∙ get_or-set_other (set ls from r) to d x [] o ∙ at₁ d o' ∙ M.others d o o';
-          first = W.after_n ∙ ap (λ (m : List ℕ). at m 1) f ∙ ap (λ (m : List ℕ). at m 0) (sym from₂);
           homes = λ m. by_cases (ℕ_discrete m n)
-              (λ q. rw q (inr (came W.says (M.homes n), R₂.homes.mine ∙ add-one to)))
+              (λ q. rw q (inr (came says (M.homes n), R₂.homes.mine ∙ add-one to)))
               (λ o. ⊎_elim (λ h. inl (same m o ∙ h)) (λ h. inr (h.0, same m o ∙ h.1)) (M.homes m));
         },
         omega (arith, ap length f, ap length from₂),
@@ -82,12 +73,12 @@ module _ {nc nn : ℕ} {s₀ s : List ℕ} {to from k : ℕ} (to< : to < nc) (fr
       same : (m : ℕ) → m ≢ n → get_or s₂ (home nc nn m) 0 ≡ get_or s (home nc nn m) 0
       same m o = R₂.homes.others m o ∙ R₁.homes.others m o
 
-  pub moved_all : Moved nc nn s₀ s to from k → length (lists nc nn s₀) ≡ nc → k ≡ 0 → Appended nc nn s₀ s to from
+  pub moved_all : Moved nc nn s₀ s to from → length (lists nc nn s₀) ≡ nc → slice_get (row nc nn s from) 0 ≡ None → Appended nc nn s₀ s to from
   moved_all M c₀ z =
       let L = M.linked in
       let ls = lists nc nn s in
       let ls₀ = lists nc nn s₀ in
-      let none : get_or ls from [] ≡ [] = nil_of (get_or ls from []) (at_end (get_or ls from []) 0 (sym M.first ∙ z)) in
+      let none : get_or ls from [] ≡ [] = nil_of (get_or ls from []) (none_past (get_or ls from []) 0 z) in
       let y = get_or ls₀ to [] ++ get_or ls₀ from [] in
       let all : get_or ls to [] ≡ y = sym (append-nil (get_or ls to [])) ∙ ap (λ (m : List ℕ). get_or ls to [] ++ m) (sym none) ∙ M.both in
       record {
@@ -114,16 +105,11 @@ module _ {nc nn : ℕ} {s₀ s : List ℕ} {to from k : ℕ} (to< : to < nc) (fr
 
 -- ---- a slice of zeros has empty lists
 
-get_d_nils : (n c : ℕ) → ◌≡◌ {A = List ℕ} (get_or (replicate n []) c []) []
-get_d_nils zero c = refl
-get_d_nils (suc n) zero = refl
-get_d_nils (suc n) (suc c) = get_d_nils n c
-
 links_zero : (nc nn : ℕ) (s : List ℕ) → length s ≡ 2 * nc + 3 * nn → ((i : ℕ) → i < length s → get_or s i 0 ≡ 0) → Links nc nn s (replicate nc [])
 links_zero nc nn s size z = record {
   size = size;
   count = length-replicate nc [];
-  row = λ c h. rw (get_d_nils nc c) (record {
+  row = λ c h. rw (get_or-replicate {A = List ℕ} nc c [] [] h) (record {
     next = λ i k. let e : i ≡ 0 = omega arith in rw e (z c (omega arith));
     prev = λ i k. let e : i ≡ 0 = omega arith in rw e (z (nc + c) (omega arith));
     own = λ i x e. absurd (omega (arith, e));
@@ -135,3 +121,6 @@ pub emptied : (nc nn : ℕ) (s : List ℕ) → length s ≡ 2 * nc + 3 * nn → 
 emptied nc nn s size z =
     let L = links_zero nc nn s size z in
     record { linked = rw (lists_is L) L; rows = lists_is L; homes = λ n h. z (home nc nn n) (omega arith) }
+
+pub filled : {nc nn n : ℕ} {s : List ℕ} → length s ≡ n → n ≡ 2 * nc + 3 * nn → s ≡ replicate n 0 → Emptied nc nn s
+filled {nc} {nn} {n} {s} len size zeros = emptied nc nn s (len ∙ size) (λ i h. rw zeros (get_or-replicate n i 0 0 (rw len at h)))

@@ -1,11 +1,10 @@
 -- The lists that s holds are `lists nc nn s`; where a linked node is; and what each update does to the lists. Assumes nothing.
-use mathlib.Core.Path.{◌≡◌, refl, sym, ap, ◌∙◌, subst}
+use mathlib.Core.Path.{◌≡◌, refl, sym, ap, ◌∙◌}
 use mathlib.Core.Logic.{◌⊎◌, inl, inr, ◌≢◌, if_pos, if_neg}
 use mathlib.Core.List.{List, [], ◌∷◌, ◌++◌}
 use Prim.Native.Nat.{ℕ, zero, suc, ◌+◌, ◌*◌, ◌<◌, ◌≤◌, zero-le, suc-le-suc}
 use native.Mathlib.Nat.{le_of_suc-le-suc, not-suc-le-zero, suc_inj}
 use native.Mathlib.Omega.{arith}
-use native.Mathlib.Numerals.{add-one}
 use native.Mathlib.Decide.{ℕ_discrete}
 use lib.ListN.{length, get_or, set, drop, length-set, drop_of_length-le}
 use lib.Seq.{ext_get_or, get_or-set_same, get_or-set_other}
@@ -237,23 +236,18 @@ module _ {nc nn : ℕ} {s : List ℕ} (L : Linked nc nn s) where
       abbrev c : ℕ
       c = container nc nn s m
 
-      stored : (l : List ℕ) (p q : ℕ) → Rowed nc nn s (put_in nc nn c p q n s) c l n (suc c) → Rowed nc nn s (splice nc nn c p q n (suc n) (suc n) q p (get_or s (home nc nn m) 0) s) c l n (c + 1)
-      stored l p q R = subst (λ (z : ℕ). Rowed nc nn s (splice nc nn c p q n (suc n) (suc n) q p z s) c l n (c + 1)) (sym (says m held)) (subst (λ (v : ℕ). Rowed nc nn s (put_in nc nn c p q n s) c l n v) (sym (add-one c)) R)
-
-      pub inserts_after : Rowed nc nn s (splice nc nn c (suc m) (get_or s (2 * nc + m) 0) n (suc n) (suc n) (get_or s (2 * nc + m) 0) (suc m) (get_or s (home nc nn m) 0) s) c (insert_after m n (row nc nn s c)) n (c + 1)
+      pub inserts_after : Rowed nc nn s (put_in nc nn c (suc m) (get_or s (2 * nc + m) 0) n s) c (insert_after m n (row nc nn s c)) n (suc c)
       inserts_after =
           let S = seated m m< held in
-          stored (insert_after m n (row nc nn s c)) (suc m) (get_or s (2 * nc + m) 0)
-          (rw (index_at m (row nc nn s c) S.index S.there S.only)
-          (inserts c (suc S.index) n (suc m) (get_or s (2 * nc + m) 0) S.c< n< lone S.index< S.there (sym S.next_is)))
+          rw (index_at m (row nc nn s c) S.index S.there S.only)
+          (inserts c (suc S.index) n (suc m) (get_or s (2 * nc + m) 0) S.c< n< lone S.index< S.there (sym S.next_is))
 
-      pub inserts_before : Rowed nc nn s (splice nc nn c (get_or s (2 * nc + nn + m) 0) (suc m) n (suc n) (suc n) (suc m) (get_or s (2 * nc + nn + m) 0) (get_or s (home nc nn m) 0) s) c (insert_before m n (row nc nn s c)) n (c + 1)
+      pub inserts_before : Rowed nc nn s (put_in nc nn c (get_or s (2 * nc + nn + m) 0) (suc m) n s) c (insert_before m n (row nc nn s c)) n (suc c)
       inserts_before =
           let S = seated m m< held in
           let lt = S.index< in
-          stored (insert_before m n (row nc nn s c)) (get_or s (2 * nc + nn + m) 0) (suc m)
-          (rw (index_at m (row nc nn s c) S.index S.there S.only)
-          (inserts c S.index n (get_or s (2 * nc + nn + m) 0) (suc m) S.c< n< lone (omega arith) (sym S.prev_is) S.there))
+          rw (index_at m (row nc nn s c) S.index S.there S.only)
+          (inserts c S.index n (get_or s (2 * nc + nn + m) 0) (suc m) S.c< n< lone (omega arith) (sym S.prev_is) S.there)
 
     pub inserts_front : (c : ℕ) → c < nc → Rowed nc nn s (put_in nc nn c 0 (get_or s c 0) n s) c (n ∷ row nc nn s c) n (suc c)
     inserts_front c c< = inserts c zero n 0 (get_or s c 0) c< n< lone zero-le refl (sym ((L.row c c<).next zero zero-le))

@@ -2,9 +2,18 @@
 -- next, prev and container of each node. A stored 0 means none, and k + 1 means k.
 -- The containers' lists, in order, are a list of lists of nodes, `ls`. `Links nc nn s ls` says that s holds ls, and `lists` reads ls off s.
 -- Assumes nothing: these are definitions.
-use Rattle.std.specs.Prelude.{◌≡◌, ◌⊎◌, ◌≢◌, ◌↔◌, Bool, true, false, List, [], ◌∷◌, ◌++◌, ℕ, zero, suc, ◌+◌, ◌-◌, ◌*◌, ◌<◌, ◌≤◌, length, get_or, set, replicate, eqb}
+use Rattle.std.specs.Prelude.{◌≡◌, ◌⊎◌, ◌≢◌, ◌↔◌, Bool, true, false, List, [], ◌∷◌, ◌++◌, ℕ, zero, suc, ◌+◌, ◌-◌, ◌*◌, ◌<◌, ◌≤◌, length, get_or, set, replicate, eqb, slice_get, Option, Some, None, option_map}
 use Rattle.std.proofs.Math.Decide.{ℕ_discrete}
 use Rattle.seqs.specs.Seqs.{seq_insert_at, index_of}
+
+-- what is stored for a node, a container or none, and what a stored number means
+abbrev pub code : Option ℕ → ℕ
+code None = 0
+code (Some k) = suc k
+
+abbrev pub decoded : ℕ → Option ℕ
+decoded zero = None
+decoded (suc k) = Some k
 
 -- what is stored for the i-th node of l: the node + 1, and 0 past the end
 abbrev pub at : List ℕ → ℕ → ℕ
@@ -157,27 +166,28 @@ unfoldable pub row_of : ℕ → List (List ℕ) → List ℕ
 row_of n [] = []
 row_of n (l ∷ ls) = choose (has n l) l (row_of n ls)
 
-abbrev pub bump : ℕ → ℕ
-bump zero = zero
-bump (suc k) = suc (suc k)
+-- the container whose list has n: none where no list has it
+unfoldable pub cont_of : ℕ → List (List ℕ) → Option ℕ
+cont_of n [] = None
+cont_of n (l ∷ ls) = choose (has n l) (Some 0) (option_map suc (cont_of n ls))
 
--- c + 1 for the container c whose list has n, and 0 for none
-unfoldable pub cont_of : ℕ → List (List ℕ) → ℕ
-cont_of n [] = 0
-cont_of n (l ∷ ls) = choose (has n l) 1 (bump (cont_of n ls))
+-- r says which list has n: none exactly where none has it, and c exactly where c's has it
+pub record HomeIn (nc : ℕ) (ls : List (List ℕ)) (n : ℕ) (r : Option ℕ) : Type 0 where
+  pub none : (r ≡ None) ↔ ((c : ℕ) → c < nc → has n (get_or ls c []) ≡ false)
+  pub one : (c : ℕ) → c < nc → (r ≡ Some c) ↔ (has n (get_or ls c []) ≡ true)
 
--- r says which list has n: 0 exactly where none has it, and c + 1 exactly where c's has it
-pub record HomeIn (nc : ℕ) (ls : List (List ℕ)) (n r : ℕ) : Type 0 where
-  pub none : (r ≡ 0) ↔ ((c : ℕ) → c < nc → has n (get_or ls c []) ≡ false)
-  pub one : (c : ℕ) → c < nc → (r ≡ suc c) ↔ (has n (get_or ls c []) ≡ true)
+-- the node before the i-th of l: none before the first
+abbrev pub preceding : List ℕ → ℕ → Option ℕ
+preceding l zero = None
+preceding l (suc i) = slice_get l i
 
--- what is stored for the node after n in l, and for the one before it: 0 for none
-abbrev pub next_in : ℕ → List ℕ → ℕ
-next_in n l = at l (suc (index_of ℕ_discrete n l))
+-- the node after n in l, and the one before it
+abbrev pub next_in : ℕ → List ℕ → Option ℕ
+next_in n l = slice_get l (suc (index_of ℕ_discrete n l))
 
-abbrev pub prev_in : ℕ → List ℕ → ℕ
-prev_in n l = place l (index_of ℕ_discrete n l)
+abbrev pub prev_in : ℕ → List ℕ → Option ℕ
+prev_in n l = preceding l (index_of ℕ_discrete n l)
 
--- what is stored for the last node of l: 0 for none
-abbrev pub last_in : List ℕ → ℕ
-last_in l = place l (length l)
+-- the last node of l
+abbrev pub last_in : List ℕ → Option ℕ
+last_in l = preceding l (length l)

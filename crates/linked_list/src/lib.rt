@@ -5,392 +5,375 @@
 // then the prevs, then the containers. A stored 0 means none, and k + 1 means k.
 #![tactic(auto)]
 
-ghost use Rattle.std.specs.Prelude.{◌≡◌, ◌≢◌, [], ◌∷◌, ◌++◌, ◌+◌, ◌*◌, ◌<◌, ◌≤◌, ltb, get_or, length};
+ghost use Rattle.std.specs.Prelude.{◌≡◌, ◌≢◌, [], ◌∷◌, ◌++◌, ◌+◌, ◌*◌, ◌^◌, ◌<◌, ◌≤◌, get_or, length, is_some, slice_get};
 ghost use Rattle.std.proofs.Math.Decide.{ℕ_discrete};
 ghost use Rattle.seqs.specs.Seqs.{Says, seq_insert_at, without};
-ghost use Rattle.linked_list.specs.Links.{at, after, before, home, Linked, lists, row, container, list_of, Sizes};
-ghost use Rattle.linked_list.specs.Links.{Rowed, Appended, Emptied, splice, insert_after, insert_before};
+ghost use Rattle.linked_list.specs.Links.{code, decoded, after, before, home, Linked, lists, row, container, list_of, Sizes};
+ghost use Rattle.linked_list.specs.Links.{Rowed, Appended, Emptied, put_in, taken_out_of, insert_after, insert_before};
 ghost use Rattle.linked_list.specs.Links.{next_in, prev_in, last_in, row_of, cont_of, HomeIn};
 ghost use Rattle.linked_list.specs.Check.{RowFound, RowsFound, FreesFound};
 
-fn wide(x: u32) -> usize
-    ensures { result ≡ x }
-{
-    x as usize
+/// The sizes of a family of lists in one slice: nc containers and nn nodes.
+#[derive(Clone, Copy)]
+pub struct Lists {
+    pub nc: usize,
+    pub nn: usize,
+    pub ghost sizes: { Sizes nc nn },
 }
 
-// Where `s` has what follows the code p in c's list: c's head for 0, and else the node's next.
-fn slot_after(nc: usize, nn: usize, p: u32, c: usize) -> usize
-    requires sizes { Sizes nc nn }
-    requires c_lt_nc { (c < nc) × (p ≤ nn) }
-    ensures { (result ≡ after nc p c) × (result < 2 * nc + 3 * nn) }
+// What a stored number means.
+fn decode(stored: u32) -> Option<usize>
+    ensures { result ≡ decoded stored }
 {
-    if p == 0 { c } else { 2 * nc + (wide(p) - 1) }
+    (stored as usize).checked_sub(1)
 }
 
-// Where `s` has what precedes the code q in c's list: c's tail for 0, and else the node's prev.
-fn slot_before(nc: usize, nn: usize, q: u32, c: usize) -> usize
-    requires sizes { Sizes nc nn }
-    requires c_lt_nc { (c < nc) × (q ≤ nn) }
-    ensures { (result ≡ before nc nn q c) × (result < 2 * nc + 3 * nn) }
+// How a node, a container or none is stored.
+fn encode(k: Option<usize>) -> u32
+    requires fits { code k < 2 ^ 32 }
+    ensures { result ≡ code k }
 {
-    if q == 0 {
-        nc + c
-    } else {
-        2 * nc + nn + (wide(q) - 1)
+    match k {
+        None => 0,
+        Some(k) => (k + 1) as u32,
     }
 }
 
-// The five stores that take the node n in or out, between the codes p and q of container c. As head and tail are stored like
-// the next and the prev of a node 0, no case has stores of its own.
-fn store(
-    s: &mut [u32],
-    nc: usize,
-    nn: usize,
-    c: usize,
-    p: u32,
-    q: u32,
-    n: usize,
-    u: u32,
-    v: u32,
-    x: u32,
-    y: u32,
-    z: u32,
-)
-    requires sizes { Sizes nc nn }
-    requires s_len { length s.old ≡ 2 * nc + 3 * nn }
-    requires c_lt_nc { c < nc }
-    requires p_le_nn { (p ≤ nn) × (q ≤ nn) }
-    requires n_lt_nn { n < nn }
-    ensures { s.new ≡ splice nc nn c p q n u v x y z s.old }
-{
-    let a = slot_after(nc, nn, p, c);
-    let b = slot_before(nc, nn, q, c);
-    s[a] = u;
-    s[b] = v;
-    s[2 * nc + n] = x;
-    s[2 * nc + nn + n] = y;
-    s[2 * nc + 2 * nn + n] = z;
-}
-
-// The head of c's list, as it is stored.
-pub fn get_head(s: &[u32], nc: usize, nn: usize, c: usize) -> u32
-    requires sizes { Sizes nc nn }
-    requires linked { Linked nc nn s.now }
-    requires c_lt_nc { c < nc }
-    ensures { result ≡ at (row nc nn s.now c) 0 }
-{
-    s[c]
-}
-
-// The tail of c's list, as it is stored.
-pub fn get_tail(s: &[u32], nc: usize, nn: usize, c: usize) -> u32
-    requires sizes { Sizes nc nn }
-    requires linked { Linked nc nn s.now }
-    requires c_lt_nc { c < nc }
-    ensures { result ≡ last_in (row nc nn s.now c) }
-{
-    s[nc + c]
-}
-
-// The node at index i of c's list, found by a walk.
-pub fn nth(s: &[u32], nc: usize, nn: usize, c: usize, i: usize) -> usize
-    requires sizes { Sizes nc nn }
-    requires linked { Linked nc nn s.now }
-    requires c_lt_nc { c < nc }
-    requires i_in_bounds { i < length (row nc nn s.now c) }
-    ensures { result ≡ get_or (row nc nn s.now c) i 0 }
-{
-    let mut k = s[c];
-    let mut j: usize = 0;
-    while j < i {
-        k = s[2 * nc + (wide(k) - 1)];
-        j += 1;
+impl Lists {
+    // Where `s` has the node n's next.
+    fn next_slot(self, n: usize) -> usize
+        requires n_lt_nn { n < self.nn }
+        ensures { (result ≡ 2 * self.nc + n) × (result < 2 * self.nc + 3 * self.nn) }
+    {
+        2 * self.nc + n
     }
-    wide(k) - 1
-}
 
-// How many nodes c's list has, counted by a walk.
-pub fn count(s: &[u32], nc: usize, nn: usize, c: usize) -> usize
-    requires sizes { Sizes nc nn }
-    requires linked { Linked nc nn s.now }
-    requires c_lt_nc { c < nc }
-    ensures { result ≡ length (row nc nn s.now c) }
-{
-    let mut k = s[c];
-    let mut j: usize = 0;
-    while k != 0 {
-        k = s[2 * nc + (wide(k) - 1)];
-        j += 1;
+    // Where `s` has the node n's prev.
+    fn prev_slot(self, n: usize) -> usize
+        requires n_lt_nn { n < self.nn }
+        ensures { (result ≡ 2 * self.nc + self.nn + n) × (result < 2 * self.nc + 3 * self.nn) }
+    {
+        2 * self.nc + self.nn + n
     }
-    j
-}
 
-// The node after n in the list that has n, as it is stored; none for a node in no list.
-pub fn get_next(s: &[u32], nc: usize, nn: usize, n: usize) -> u32
-    requires sizes { Sizes nc nn }
-    requires linked { Linked nc nn s.now }
-    requires n_lt_nn { n < nn }
-    ensures { result ≡ next_in n (row_of n (lists nc nn s.now)) }
-{
-    s[2 * nc + n]
-}
-
-// The node before n in the list that has n, as it is stored; none for a node in no list.
-pub fn get_prev(s: &[u32], nc: usize, nn: usize, n: usize) -> u32
-    requires sizes { Sizes nc nn }
-    requires linked { Linked nc nn s.now }
-    requires n_lt_nn { n < nn }
-    ensures { result ≡ prev_in n (row_of n (lists nc nn s.now)) }
-{
-    s[2 * nc + nn + n]
-}
-
-// The container whose list has n, as it is stored.
-pub fn get_container(s: &[u32], nc: usize, nn: usize, n: usize) -> u32
-    requires sizes { Sizes nc nn }
-    requires linked { Linked nc nn s.now }
-    requires n_lt_nn { n < nn }
-    ensures { result ≡ cont_of n (lists nc nn s.now) }
-{
-    s[2 * nc + 2 * nn + n]
-}
-
-// The same, said list by list: 0 exactly if no list has n, and c + 1 exactly if c's list has it.
-pub fn get_home(s: &[u32], nc: usize, nn: usize, n: usize) -> usize
-    requires sizes { Sizes nc nn }
-    requires linked { Linked nc nn s.now }
-    requires n_lt_nn { n < nn }
-    ensures { HomeIn nc (lists nc nn s.now) n result }
-{
-    wide(s[2 * nc + 2 * nn + n])
-}
-
-// Appends all nodes of the list of `donor` to the back of the list of `donee`, and leaves `donor` empty. The two must differ.
-pub fn append_linked_list(s: &mut [u32], nc: usize, nn: usize, donee: usize, donor: usize)
-    requires sizes { Sizes nc nn }
-    requires linked { Linked nc nn s.old }
-    requires donee_lt_nc { (donee < nc) × (donor < nc) × (donee ≢ donor) }
-    ensures { Appended nc nn s.old s.new donee donor }
-{
-    let mut k = s[donor];
-    while k != 0 {
-        let n = wide(k) - 1;
-        let next = s[2 * nc + n];
-        unlink(s, nc, nn, n);
-        insert_at_back(s, nc, nn, donee, n);
-        k = next;
+    // Where `s` has the node n's container.
+    fn home_slot(self, n: usize) -> usize
+        requires n_lt_nn { n < self.nn }
+        ensures { (result ≡ home self.nc self.nn n) × (result < 2 * self.nc + 3 * self.nn) }
+    {
+        2 * self.nc + 2 * self.nn + n
     }
-}
 
-// Inserts the node n, which must be in no list, after the node m, which must be in one.
-pub fn insert_after(s: &mut [u32], nc: usize, nn: usize, m: usize, n: usize)
-    requires sizes { Sizes nc nn }
-    requires linked { Linked nc nn s.old }
-    requires m_lt_nn { (m < nn) × (n < nn) }
-    requires nonzero { 0 < get_or s.old (home nc nn m) 0 }
-    requires n_value { get_or s.old (home nc nn n) 0 ≡ 0 }
-    ensures { Rowed nc nn s.old s.new (container nc nn s.old m) (insert_after m n (list_of nc nn s.old m)) n (container nc nn s.old m + 1) }
-{
-    let z = s[2 * nc + 2 * nn + m];
-    let c = wide(z) - 1;
-    let q = s[2 * nc + m];
-    let p = (m + 1) as u32;
-    let k = (n + 1) as u32;
-    store(s, nc, nn, c, p, q, n, k, k, q, p, z);
-}
-
-// Inserts the node n, which must be in no list, before the node m, which must be in one.
-pub fn insert_before(s: &mut [u32], nc: usize, nn: usize, m: usize, n: usize)
-    requires sizes { Sizes nc nn }
-    requires linked { Linked nc nn s.old }
-    requires m_lt_nn { (m < nn) × (n < nn) }
-    requires nonzero { 0 < get_or s.old (home nc nn m) 0 }
-    requires n_value { get_or s.old (home nc nn n) 0 ≡ 0 }
-    ensures { Rowed nc nn s.old s.new (container nc nn s.old m) (insert_before m n (list_of nc nn s.old m)) n (container nc nn s.old m + 1) }
-{
-    let z = s[2 * nc + 2 * nn + m];
-    let c = wide(z) - 1;
-    let p = s[2 * nc + nn + m];
-    let q = (m + 1) as u32;
-    let k = (n + 1) as u32;
-    store(s, nc, nn, c, p, q, n, k, k, q, p, z);
-}
-
-// Inserts the node n, which must be in no list, as the head of container c's list.
-pub fn insert_at_front(s: &mut [u32], nc: usize, nn: usize, c: usize, n: usize)
-    requires sizes { Sizes nc nn }
-    requires linked { Linked nc nn s.old }
-    requires c_lt_nc { (c < nc) × (n < nn) }
-    requires n_value { get_or s.old (home nc nn n) 0 ≡ 0 }
-    ensures { Rowed nc nn s.old s.new c (n ∷ row nc nn s.old c) n (c + 1) }
-{
-    let q = s[c];
-    let k = (n + 1) as u32;
-    let z = (c + 1) as u32;
-    store(s, nc, nn, c, 0, q, n, k, k, q, 0, z);
-}
-
-// Inserts the node n, which must be in no list, as the tail of container c's list.
-pub fn insert_at_back(s: &mut [u32], nc: usize, nn: usize, c: usize, n: usize)
-    requires sizes { Sizes nc nn }
-    requires linked { Linked nc nn s.old }
-    requires c_lt_nc { (c < nc) × (n < nn) }
-    requires n_value { get_or s.old (home nc nn n) 0 ≡ 0 }
-    ensures { Rowed nc nn s.old s.new c (row nc nn s.old c ++ n ∷ []) n (c + 1) }
-{
-    let p = s[nc + c];
-    let k = (n + 1) as u32;
-    let z = (c + 1) as u32;
-    store(s, nc, nn, c, p, 0, n, k, k, 0, p, z);
-}
-
-// Inserts the node n, which must be in no list, at index i of container c's list, or at its back where i is past the end.
-pub fn insert_at(s: &mut [u32], nc: usize, nn: usize, c: usize, i: usize, n: usize)
-    requires sizes { Sizes nc nn }
-    requires linked { Linked nc nn s.old }
-    requires c_lt_nc { (c < nc) × (n < nn) }
-    requires n_value { get_or s.old (home nc nn n) 0 ≡ 0 }
-    ensures { Rowed nc nn s.old s.new c (seq_insert_at i n (row nc nn s.old c)) n (c + 1) }
-{
-    let k = count(s, nc, nn, c);
-    if i < k {
-        let x = nth(s, nc, nn, c, i);
-        insert_before(s, nc, nn, x, n);
-        return;
-    }
-    insert_at_back(s, nc, nn, c, n);
-}
-
-// Is the node n part of a list?
-pub fn is_linked(s: &[u32], nc: usize, nn: usize, n: usize) -> bool
-    requires sizes { Sizes nc nn }
-    requires linked { Linked nc nn s.now }
-    requires n_lt_nn { n < nn }
-    ensures { result ≡ ltb 0 (cont_of n (lists nc nn s.now)) }
-{
-    0 < s[2 * nc + 2 * nn + n]
-}
-
-// Unlinks the node n from the list that it must be in.
-pub fn unlink(s: &mut [u32], nc: usize, nn: usize, n: usize)
-    requires sizes { Sizes nc nn }
-    requires linked { Linked nc nn s.old }
-    requires n_lt_nn { n < nn }
-    requires nonzero { 0 < get_or s.old (home nc nn n) 0 }
-    ensures { Rowed nc nn s.old s.new (container nc nn s.old n) (without ℕ_discrete n (list_of nc nn s.old n)) n 0 }
-{
-    let c = wide(s[2 * nc + 2 * nn + n]) - 1;
-    let q = s[2 * nc + n];
-    let p = s[2 * nc + nn + n];
-    store(s, nc, nn, c, p, q, n, q, p, 0, 0, 0);
-}
-
-// Makes every list empty, whatever `s` held.
-pub fn init(s: &mut [u32], nc: usize, nn: usize)
-    requires sizes { Sizes nc nn }
-    requires s_len { length s.old ≡ 2 * nc + 3 * nn }
-    ensures { Emptied nc nn s.new }
-{
-    let mut i: usize = 0;
-    while i < s.len() {
-        s[i] = 0;
-        i += 1;
-    }
-}
-
-// The length of c's list, if that is well formed and has at most b nodes; else b + 1.
-fn check_row(s: &[u32], nc: usize, nn: usize, c: usize, b: usize) -> usize
-    requires sizes { Sizes nc nn }
-    requires s_len { length s.now ≡ 2 * nc + 3 * nn }
-    requires c_lt_nc { c < nc }
-    requires b_le_nn { b ≤ nn }
-    ensures { RowFound nc nn s.now c b result }
-{
-    let z = (c + 1) as u32;
-    let mut p: u32 = 0;
-    let mut q = s[c];
-    let mut j: usize = 0;
-    while q != 0 {
-        let x = wide(q) - 1;
-        if j >= b {
-            return b + 1;
+    // Where `s` has what follows p in c's list: c's head for none, and else the node's next.
+    fn slot_after(self, p: Option<usize>, c: usize) -> usize
+        requires c_lt_nc { (c < self.nc) × (code p ≤ self.nn) }
+        ensures { (result ≡ after self.nc (code p) c) × (result < 2 * self.nc + 3 * self.nn) }
+    {
+        match p {
+            None => c,
+            Some(k) => self.next_slot(k),
         }
-        if x >= nn {
-            return b + 1;
-        }
-        if s[2 * nc + 2 * nn + x] != z {
-            return b + 1;
-        }
-        if s[2 * nc + nn + x] != p {
-            return b + 1;
-        }
-        p = q;
-        q = s[2 * nc + x];
-        j += 1;
     }
-    if s[nc + c] != p {
-        return b + 1;
-    }
-    j
-}
 
-// The nodes of all the lists, if they are well formed and have at most nn nodes together; else nn + 1.
-fn check_rows(s: &[u32], nc: usize, nn: usize) -> usize
-    requires sizes { Sizes nc nn }
-    requires s_len { length s.now ≡ 2 * nc + 3 * nn }
-    ensures { RowsFound nc nn s.now result }
-{
-    let mut t: usize = 0;
-    let mut c: usize = 0;
-    while c < nc {
-        let r = check_row(s, nc, nn, c, nn - t);
-        if r > nn - t {
-            return nn + 1;
+    // Where `s` has what precedes q in c's list: c's tail for none, and else the node's prev.
+    fn slot_before(self, q: Option<usize>, c: usize) -> usize
+        requires c_lt_nc { (c < self.nc) × (code q ≤ self.nn) }
+        ensures { (result ≡ before self.nc self.nn (code q) c) × (result < 2 * self.nc + 3 * self.nn) }
+    {
+        match q {
+            None => self.nc + c,
+            Some(k) => self.prev_slot(k),
         }
-        t += r;
-        c += 1;
     }
-    t
-}
 
-// How many nodes have no container, if those have no next and no prev; else nn + 1.
-fn check_frees(s: &[u32], nc: usize, nn: usize) -> usize
-    requires sizes { Sizes nc nn }
-    requires s_len { length s.now ≡ 2 * nc + 3 * nn }
-    ensures { FreesFound nc nn s.now result }
-{
-    let mut f: usize = 0;
-    let mut n: usize = 0;
-    while n < nn {
-        let h = s[2 * nc + 2 * nn + n];
-        if h == 0 {
-            if s[2 * nc + n] != 0 {
-                return nn + 1;
+    // Stores that the node n stands between p and q in container c's list. As head and tail are stored like the next and the
+    // prev of a node, no case has stores of its own.
+    fn put_in(self, s: &mut [u32], c: usize, p: Option<usize>, q: Option<usize>, n: usize)
+        requires s_len { length s.old ≡ 2 * self.nc + 3 * self.nn }
+        requires c_lt_nc { c < self.nc }
+        requires p_le_nn { (code p ≤ self.nn) × (code q ≤ self.nn) }
+        requires n_lt_nn { n < self.nn }
+        ensures { s.new ≡ put_in self.nc self.nn c (code p) (code q) n s.old }
+    {
+        let a = self.slot_after(p, c);
+        let b = self.slot_before(q, c);
+        s[a] = encode(Some(n));
+        s[b] = encode(Some(n));
+        s[self.next_slot(n)] = encode(q);
+        s[self.prev_slot(n)] = encode(p);
+        s[self.home_slot(n)] = encode(Some(c));
+    }
+
+    // Stores that p and q of container c's list stand side by side, and the node n, which stood between them, in no list.
+    fn take_out(self, s: &mut [u32], c: usize, p: Option<usize>, q: Option<usize>, n: usize)
+        requires s_len { length s.old ≡ 2 * self.nc + 3 * self.nn }
+        requires c_lt_nc { c < self.nc }
+        requires p_le_nn { (code p ≤ self.nn) × (code q ≤ self.nn) }
+        requires n_lt_nn { n < self.nn }
+        ensures { s.new ≡ taken_out_of self.nc self.nn c (code p) (code q) n s.old }
+    {
+        let a = self.slot_after(p, c);
+        let b = self.slot_before(q, c);
+        s[a] = encode(q);
+        s[b] = encode(p);
+        s[self.next_slot(n)] = 0;
+        s[self.prev_slot(n)] = 0;
+        s[self.home_slot(n)] = 0;
+    }
+
+    /// The head of c's list.
+    pub fn get_head(self, s: &[u32], c: usize) -> Option<usize>
+        requires linked { Linked self.nc self.nn s.now }
+        requires c_lt_nc { c < self.nc }
+        ensures { result ≡ slice_get (row self.nc self.nn s.now c) 0 }
+    {
+        decode(s[c])
+    }
+
+    /// The tail of c's list.
+    pub fn get_tail(self, s: &[u32], c: usize) -> Option<usize>
+        requires linked { Linked self.nc self.nn s.now }
+        requires c_lt_nc { c < self.nc }
+        ensures { result ≡ last_in (row self.nc self.nn s.now c) }
+    {
+        decode(s[self.nc + c])
+    }
+
+    /// The node at index i of c's list, found by a walk.
+    pub fn nth(self, s: &[u32], c: usize, i: usize) -> usize
+        requires linked { Linked self.nc self.nn s.now }
+        requires c_lt_nc { c < self.nc }
+        requires i_in_bounds { i < length (row self.nc self.nn s.now c) }
+        ensures { result ≡ get_or (row self.nc self.nn s.now c) i 0 }
+    {
+        let mut n = self.get_head(s, c).unwrap();
+        for _j in 0..i {
+            n = self.get_next(s, n).unwrap();
+        }
+        n
+    }
+
+    /// How many nodes c's list has, counted by a walk.
+    pub fn count(self, s: &[u32], c: usize) -> usize
+        requires linked { Linked self.nc self.nn s.now }
+        requires c_lt_nc { c < self.nc }
+        ensures { result ≡ length (row self.nc self.nn s.now c) }
+    {
+        let mut at = self.get_head(s, c);
+        let mut j = 0;
+        while let Some(n) = at {
+            at = self.get_next(s, n);
+            j += 1;
+        }
+        j
+    }
+
+    /// The node after n in the list that has n; none for a node in no list.
+    pub fn get_next(self, s: &[u32], n: usize) -> Option<usize>
+        requires linked { Linked self.nc self.nn s.now }
+        requires n_lt_nn { n < self.nn }
+        ensures { result ≡ next_in n (row_of n (lists self.nc self.nn s.now)) }
+    {
+        decode(s[self.next_slot(n)])
+    }
+
+    /// The node before n in the list that has n; none for a node in no list.
+    pub fn get_prev(self, s: &[u32], n: usize) -> Option<usize>
+        requires linked { Linked self.nc self.nn s.now }
+        requires n_lt_nn { n < self.nn }
+        ensures { result ≡ prev_in n (row_of n (lists self.nc self.nn s.now)) }
+    {
+        decode(s[self.prev_slot(n)])
+    }
+
+    /// The container whose list has n.
+    pub fn get_container(self, s: &[u32], n: usize) -> Option<usize>
+        requires linked { Linked self.nc self.nn s.now }
+        requires n_lt_nn { n < self.nn }
+        ensures { result ≡ cont_of n (lists self.nc self.nn s.now) }
+    {
+        decode(s[self.home_slot(n)])
+    }
+
+    /// The same, said list by list: none exactly if no list has n, and c exactly if c's list has it.
+    pub fn get_home(self, s: &[u32], n: usize) -> Option<usize>
+        requires linked { Linked self.nc self.nn s.now }
+        requires n_lt_nn { n < self.nn }
+        ensures { HomeIn self.nc (lists self.nc self.nn s.now) n result }
+    {
+        self.get_container(s, n)
+    }
+
+    /// Appends all nodes of the list of `donor` to the back of the list of `donee`, and leaves `donor` empty. The two must differ.
+    pub fn append_linked_list(self, s: &mut [u32], donee: usize, donor: usize)
+        requires linked { Linked self.nc self.nn s.old }
+        requires donee_lt_nc { (donee < self.nc) × (donor < self.nc) × (donee ≢ donor) }
+        ensures { Appended self.nc self.nn s.old s.new donee donor }
+    {
+        while let Some(n) = self.get_head(s, donor) {
+            self.unlink(s, n);
+            self.insert_at_back(s, donee, n);
+        }
+    }
+
+    /// Inserts the node n, which must be in no list, after the node m, which must be in one.
+    pub fn insert_after(self, s: &mut [u32], m: usize, n: usize)
+        requires linked { Linked self.nc self.nn s.old }
+        requires m_lt_nn { (m < self.nn) × (n < self.nn) }
+        requires nonzero { 0 < get_or s.old (home self.nc self.nn m) 0 }
+        requires n_value { get_or s.old (home self.nc self.nn n) 0 ≡ 0 }
+        ensures { Rowed self.nc self.nn s.old s.new (container self.nc self.nn s.old m) (insert_after m n (list_of self.nc self.nn s.old m)) n (container self.nc self.nn s.old m + 1) }
+    {
+        let c = self.get_container(s, m).unwrap();
+        let q = self.get_next(s, m);
+        self.put_in(s, c, Some(m), q, n);
+    }
+
+    /// Inserts the node n, which must be in no list, before the node m, which must be in one.
+    pub fn insert_before(self, s: &mut [u32], m: usize, n: usize)
+        requires linked { Linked self.nc self.nn s.old }
+        requires m_lt_nn { (m < self.nn) × (n < self.nn) }
+        requires nonzero { 0 < get_or s.old (home self.nc self.nn m) 0 }
+        requires n_value { get_or s.old (home self.nc self.nn n) 0 ≡ 0 }
+        ensures { Rowed self.nc self.nn s.old s.new (container self.nc self.nn s.old m) (insert_before m n (list_of self.nc self.nn s.old m)) n (container self.nc self.nn s.old m + 1) }
+    {
+        let c = self.get_container(s, m).unwrap();
+        let p = self.get_prev(s, m);
+        self.put_in(s, c, p, Some(m), n);
+    }
+
+    /// Inserts the node n, which must be in no list, as the head of container c's list.
+    pub fn insert_at_front(self, s: &mut [u32], c: usize, n: usize)
+        requires linked { Linked self.nc self.nn s.old }
+        requires c_lt_nc { (c < self.nc) × (n < self.nn) }
+        requires n_value { get_or s.old (home self.nc self.nn n) 0 ≡ 0 }
+        ensures { Rowed self.nc self.nn s.old s.new c (n ∷ row self.nc self.nn s.old c) n (c + 1) }
+    {
+        let q = self.get_head(s, c);
+        self.put_in(s, c, None, q, n);
+    }
+
+    /// Inserts the node n, which must be in no list, as the tail of container c's list.
+    pub fn insert_at_back(self, s: &mut [u32], c: usize, n: usize)
+        requires linked { Linked self.nc self.nn s.old }
+        requires c_lt_nc { (c < self.nc) × (n < self.nn) }
+        requires n_value { get_or s.old (home self.nc self.nn n) 0 ≡ 0 }
+        ensures { Rowed self.nc self.nn s.old s.new c (row self.nc self.nn s.old c ++ n ∷ []) n (c + 1) }
+    {
+        let p = self.get_tail(s, c);
+        self.put_in(s, c, p, None, n);
+    }
+
+    /// Inserts the node n, which must be in no list, at index i of container c's list, or at its back where i is past the end.
+    pub fn insert_at(self, s: &mut [u32], c: usize, i: usize, n: usize)
+        requires linked { Linked self.nc self.nn s.old }
+        requires c_lt_nc { (c < self.nc) × (n < self.nn) }
+        requires n_value { get_or s.old (home self.nc self.nn n) 0 ≡ 0 }
+        ensures { Rowed self.nc self.nn s.old s.new c (seq_insert_at i n (row self.nc self.nn s.old c)) n (c + 1) }
+    {
+        if i < self.count(s, c) {
+            let m = self.nth(s, c, i);
+            self.insert_before(s, m, n);
+        } else {
+            self.insert_at_back(s, c, n);
+        }
+    }
+
+    /// Is the node n part of a list?
+    pub fn is_linked(self, s: &[u32], n: usize) -> bool
+        requires linked { Linked self.nc self.nn s.now }
+        requires n_lt_nn { n < self.nn }
+        ensures { result ≡ is_some (cont_of n (lists self.nc self.nn s.now)) }
+    {
+        self.get_container(s, n).is_some()
+    }
+
+    /// Unlinks the node n from the list that it must be in.
+    pub fn unlink(self, s: &mut [u32], n: usize)
+        requires linked { Linked self.nc self.nn s.old }
+        requires n_lt_nn { n < self.nn }
+        requires nonzero { 0 < get_or s.old (home self.nc self.nn n) 0 }
+        ensures { Rowed self.nc self.nn s.old s.new (container self.nc self.nn s.old n) (without ℕ_discrete n (list_of self.nc self.nn s.old n)) n 0 }
+    {
+        let c = self.get_container(s, n).unwrap();
+        let p = self.get_prev(s, n);
+        let q = self.get_next(s, n);
+        self.take_out(s, c, p, q, n);
+    }
+
+    /// Makes every list empty, whatever `s` held.
+    pub fn init(self, s: &mut [u32])
+        requires s_len { length s.old ≡ 2 * self.nc + 3 * self.nn }
+        ensures { Emptied self.nc self.nn s.new }
+    {
+        s.fill(0);
+    }
+
+    // The length of c's list, if that is well formed and has at most b nodes.
+    fn check_row(self, s: &[u32], c: usize, b: usize) -> Option<usize>
+        requires s_len { length s.now ≡ 2 * self.nc + 3 * self.nn }
+        requires c_lt_nc { c < self.nc }
+        requires b_le_nn { b ≤ self.nn }
+        ensures { RowFound self.nc self.nn s.now c b result }
+    {
+        let mut p = None;
+        let mut q = decode(s[c]);
+        let mut j = 0;
+        while let Some(x) = q {
+            if j >= b || x >= self.nn {
+                return None;
             }
-            if s[2 * nc + nn + n] != 0 {
-                return nn + 1;
+            if decode(s[self.home_slot(x)]) != Some(c) || decode(s[self.prev_slot(x)]) != p {
+                return None;
             }
-            f += 1;
+            p = q;
+            q = decode(s[self.next_slot(x)]);
+            j += 1;
         }
-        n += 1;
+        if decode(s[self.nc + c]) == p {
+            Some(j)
+        } else {
+            None
+        }
     }
-    f
-}
 
-// Is `s` well linked? For a slice of any contents. Nodes that only point at each other, outside every list, are found by count.
-pub fn check_links(s: &[u32], nc: usize, nn: usize) -> bool
-    requires sizes { Sizes nc nn }
-    requires s_len { length s.now ≡ 2 * nc + 3 * nn }
-    ensures { Says result (Linked nc nn s.now) }
-{
-    let t = check_rows(s, nc, nn);
-    let f = check_frees(s, nc, nn);
-    if t > nn {
-        return false;
+    // The nodes of all the lists, if they are well formed and have at most nn nodes together.
+    fn check_rows(self, s: &[u32]) -> Option<usize>
+        requires s_len { length s.now ≡ 2 * self.nc + 3 * self.nn }
+        ensures { RowsFound self.nc self.nn s.now result }
+    {
+        let mut t: usize = 0;
+        for c in 0..self.nc {
+            t += self.check_row(s, c, self.nn - t)?;
+        }
+        Some(t)
     }
-    if f > nn {
-        return false;
+
+    // How many nodes have no container, if those have no next and no prev.
+    fn check_frees(self, s: &[u32]) -> Option<usize>
+        requires s_len { length s.now ≡ 2 * self.nc + 3 * self.nn }
+        ensures { FreesFound self.nc self.nn s.now result }
+    {
+        let mut f: usize = 0;
+        for n in 0..self.nn {
+            if s[self.home_slot(n)] == 0 {
+                if s[self.next_slot(n)] != 0 || s[self.prev_slot(n)] != 0 {
+                    return None;
+                }
+                f += 1;
+            }
+        }
+        Some(f)
     }
-    t + f == nn
+
+    /// Is `s` well linked? For a slice of any contents. Nodes that only point at each other, outside every list, are found by count.
+    pub fn check_links(self, s: &[u32]) -> bool
+        requires s_len { length s.now ≡ 2 * self.nc + 3 * self.nn }
+        ensures { Says result (Linked self.nc self.nn s.now) }
+    {
+        match (self.check_rows(s), self.check_frees(s)) {
+            (Some(t), Some(f)) => t + f == self.nn,
+            _ => false,
+        }
+    }
 }

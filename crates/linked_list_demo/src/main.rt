@@ -10,282 +10,200 @@
 #![tactic(auto)]
 
 ghost use Rattle.std.specs.Prelude.{◌≡◌, ◌+◌, ◌*◌, ◌<◌, ◌≤◌, length};
-ghost use Rattle.linked_list.specs.Links.{Sizes, Linked};
+ghost use Rattle.linked_list.specs.Links.{Linked};
 
-fn wide(x: u32) -> usize
-    ensures { result ≡ x }
-{
-    x as usize
-}
+use linked_list::Lists;
+use std::io;
 
 fn digit(b: u8) -> usize
     ensures { result ≤ 255 }
 {
-    if b < 48 {
-        return 0;
-    }
-    (b - 48) as usize
+    b.saturating_sub(b'0') as usize
 }
 
-fn print(n: usize) {
-    io::print_decimal(1, n as u64);
+// A node or a container as it is stored: 0 for none.
+fn stored(k: Option<usize>) -> usize {
+    k.map_or(0, |k| k.saturating_add(1))
 }
 
 // Inserts n into c's list: at its front, at its back, or at index i.
-fn insert(s: &mut [u32], nc: usize, nn: usize, what: u8, c: usize, i: usize, n: usize) -> bool
-    requires sizes { Sizes nc nn }
-    requires linked { Linked nc nn s.old }
+fn insert(lists: Lists, s: &mut [u32], what: u8, c: usize, i: usize, n: usize) -> bool
+    requires linked { Linked lists.nc lists.nn s.old }
 {
-    if c >= nc {
+    if c >= lists.nc || n >= lists.nn || lists.get_home(s, n).is_some() {
         return false;
     }
-    if n >= nn {
-        return false;
+    match what {
+        b'F' => lists.insert_at_front(s, c, n),
+        b'B' => lists.insert_at_back(s, c, n),
+        _ => lists.insert_at(s, c, i, n),
     }
-    if linked_list::get_home(s, nc, nn, n) != 0 {
-        return false;
-    }
-    if what == b'F' {
-        linked_list::insert_at_front(s, nc, nn, c, n);
-        return true;
-    }
-    if what == b'B' {
-        linked_list::insert_at_back(s, nc, nn, c, n);
-        return true;
-    }
-    linked_list::insert_at(s, nc, nn, c, i, n);
     true
 }
 
 // Inserts n after or before the mark m.
-fn insert_by_mark(s: &mut [u32], nc: usize, nn: usize, what: u8, m: usize, n: usize) -> bool
-    requires sizes { Sizes nc nn }
-    requires linked { Linked nc nn s.old }
+fn insert_by_mark(lists: Lists, s: &mut [u32], what: u8, m: usize, n: usize) -> bool
+    requires linked { Linked lists.nc lists.nn s.old }
 {
-    if m >= nn {
+    if m >= lists.nn
+        || n >= lists.nn
+        || lists.get_home(s, m).is_none()
+        || lists.get_home(s, n).is_some()
+    {
         return false;
     }
-    if n >= nn {
-        return false;
+    match what {
+        b'A' => lists.insert_after(s, m, n),
+        _ => lists.insert_before(s, m, n),
     }
-    if linked_list::get_home(s, nc, nn, m) == 0 {
-        return false;
-    }
-    if linked_list::get_home(s, nc, nn, n) != 0 {
-        return false;
-    }
-    if what == b'A' {
-        linked_list::insert_after(s, nc, nn, m, n);
-        return true;
-    }
-    linked_list::insert_before(s, nc, nn, m, n);
     true
 }
 
-fn unlink(s: &mut [u32], nc: usize, nn: usize, n: usize) -> bool
-    requires sizes { Sizes nc nn }
-    requires linked { Linked nc nn s.old }
+fn unlink(lists: Lists, s: &mut [u32], n: usize) -> bool
+    requires linked { Linked lists.nc lists.nn s.old }
 {
-    if n >= nn {
+    if n >= lists.nn || lists.get_home(s, n).is_none() {
         return false;
     }
-    if linked_list::get_home(s, nc, nn, n) == 0 {
-        return false;
-    }
-    linked_list::unlink(s, nc, nn, n);
+    lists.unlink(s, n);
     true
 }
 
-fn append(s: &mut [u32], nc: usize, nn: usize, donee: usize, donor: usize) -> bool
-    requires sizes { Sizes nc nn }
-    requires linked { Linked nc nn s.old }
+fn append(lists: Lists, s: &mut [u32], donee: usize, donor: usize) -> bool
+    requires linked { Linked lists.nc lists.nn s.old }
 {
-    if donee >= nc {
+    if donee >= lists.nc || donor >= lists.nc || donee == donor {
         return false;
     }
-    if donor >= nc {
-        return false;
-    }
-    if donee == donor {
-        return false;
-    }
-    linked_list::append_linked_list(s, nc, nn, donee, donor);
+    lists.append_linked_list(s, donee, donor);
     true
 }
 
 fn tear(s: &mut [u32], at: usize, v: u32) -> bool {
-    if at >= s.len() {
-        return false;
+    match s.get_mut(at) {
+        Some(cell) => {
+            *cell = v;
+            true
+        }
+        None => false,
     }
-    s[at] = v;
-    true
 }
 
-// One step, on lists that are well linked.
-fn change(s: &mut [u32], nc: usize, nn: usize, what: u8, x: usize, y: usize, n: usize) -> bool
-    requires sizes { Sizes nc nn }
-    requires linked { Linked nc nn s.old }
+// A step that changes lists which are well linked.
+fn change(lists: Lists, s: &mut [u32], what: u8, x: usize, y: usize, n: usize) -> bool
+    requires linked { Linked lists.nc lists.nn s.old }
 {
-    if what == b'U' {
-        return unlink(s, nc, nn, n);
+    match what {
+        b'U' => unlink(lists, s, n),
+        b'M' => append(lists, s, x, y),
+        b'A' | b'P' => insert_by_mark(lists, s, what, x, n),
+        _ => insert(lists, s, what, x, y, n),
     }
-    if what == b'M' {
-        return append(s, nc, nn, x, y);
-    }
-    if what == b'A' {
-        return insert_by_mark(s, nc, nn, what, x, n);
-    }
-    if what == b'P' {
-        return insert_by_mark(s, nc, nn, what, x, n);
-    }
-    if what == b'N' {
-        neighbours(s, nc, nn);
-        return true;
-    }
-    insert(s, nc, nn, what, x, y, n)
 }
 
-// One step, on a slice of any contents: done, or refused.
-fn act(s: &mut [u32], nc: usize, nn: usize, what: u8, a: u8, b: u8, c: u8) -> bool
-    requires sizes { Sizes nc nn }
-    requires s_len { length s.old ≡ 2 * nc + 3 * nn }
+// One step, on a slice of any contents: whether it is done, or refused.
+fn act(rt: &impl Print, lists: Lists, s: &mut [u32], step: [u8; 4]) -> io::Result<bool>
+    requires s_len { length s.old ≡ 2 * lists.nc + 3 * lists.nn }
 {
+    let [what, a, b, c] = step;
     let x = digit(a);
     let y = digit(b);
+    let n = digit(c);
     if what == b'T' {
-        return tear(s, 10 * x + y, digit(c) as u32);
+        return Ok(tear(s, 10 * x + y, n as u32));
     }
-    if linked_list::check_links(s, nc, nn) {
-        return change(s, nc, nn, what, x, y, digit(c));
+    if !lists.check_links(s) {
+        return Ok(false);
     }
-    false
+    if what == b'N' {
+        neighbours(rt, lists, s)?;
+        return Ok(true);
+    }
+    Ok(change(lists, s, what, x, y, n))
 }
 
 // c's list, with its head and tail as they are stored.
-fn show_row(s: &[u32], nc: usize, nn: usize, c: usize)
-    requires sizes { Sizes nc nn }
-    requires linked { Linked nc nn s.now }
-    requires c_lt_nc { c < nc }
+fn show_row(rt: &impl Print, lists: Lists, s: &[u32], c: usize) -> io::Result<()>
+    requires linked { Linked lists.nc lists.nn s.now }
+    requires c_lt_nc { c < lists.nc }
 {
-    io::write_all(1, b" ");
-    print(wide(linked_list::get_head(s, nc, nn, c)));
-    io::write_all(1, b"[");
-    let k = linked_list::count(s, nc, nn, c);
-    let mut i: usize = 0;
-    while i < k {
-        io::write_all(1, b" ");
-        print(linked_list::nth(s, nc, nn, c, i));
-        i += 1;
+    let head = stored(lists.get_head(s, c));
+    print!(rt; " {head}[")?;
+    for i in 0..lists.count(s, c) {
+        let n = lists.nth(s, c, i);
+        print!(rt; " {n}")?;
     }
-    io::write_all(1, b" ]");
-    print(wide(linked_list::get_tail(s, nc, nn, c)));
+    let tail = stored(lists.get_tail(s, c));
+    print!(rt; " ]{tail}")
 }
 
 // Each node's next, prev and container as they are stored: a star before a node that is in a list.
-fn neighbours(s: &[u32], nc: usize, nn: usize)
-    requires sizes { Sizes nc nn }
-    requires linked { Linked nc nn s.now }
+fn neighbours(rt: &impl Print, lists: Lists, s: &[u32]) -> io::Result<()>
+    requires linked { Linked lists.nc lists.nn s.now }
 {
-    let mut n: usize = 0;
-    while n < nn {
-        neighbours_of(s, nc, nn, n);
-        n += 1;
+    for n in 0..lists.nn {
+        let mark = if lists.is_linked(s, n) { "*" } else { "" };
+        let next = stored(lists.get_next(s, n));
+        let prev = stored(lists.get_prev(s, n));
+        let container = stored(lists.get_container(s, n));
+        print!(rt; " {mark}{n}:{next},{prev},{container}")?;
     }
+    Ok(())
 }
 
-fn neighbours_of(s: &[u32], nc: usize, nn: usize, n: usize)
-    requires sizes { Sizes nc nn }
-    requires linked { Linked nc nn s.now }
-    requires n_lt_nn { n < nn }
+fn show(rt: &impl Print, lists: Lists, s: &[u32]) -> io::Result<()>
+    requires s_len { length s.now ≡ 2 * lists.nc + 3 * lists.nn }
 {
-    if linked_list::is_linked(s, nc, nn, n) {
-        io::write_all(1, b" *");
+    if !lists.check_links(s) {
+        return println!(rt; " torn");
+    }
+    for c in 0..lists.nc {
+        show_row(rt, lists, s, c)?;
+    }
+    println!(rt)
+}
+
+fn take_step(rt: &impl Print, lists: Lists, s: &mut [u32], step: [u8; 4]) -> io::Result<()>
+    requires s_len { length s.old ≡ 2 * lists.nc + 3 * lists.nn }
+{
+    let [what, a, b, c] = step.map(char::from);
+    print!(rt; "{what}{a}{b}{c}")?;
+    let outcome = if act(rt, lists, s, step)? {
+        "done"
     } else {
-        io::write_all(1, b" ");
-    }
-    print(n);
-    io::write_all(1, b":");
-    print(wide(linked_list::get_next(s, nc, nn, n)));
-    io::write_all(1, b",");
-    print(wide(linked_list::get_prev(s, nc, nn, n)));
-    io::write_all(1, b",");
-    print(wide(linked_list::get_container(s, nc, nn, n)));
+        "refused"
+    };
+    print!(rt; " {outcome}")?;
+    show(rt, lists, s)
 }
 
-fn show_rows(s: &[u32], nc: usize, nn: usize)
-    requires sizes { Sizes nc nn }
-    requires linked { Linked nc nn s.now }
+fn play(rt: &impl Print, lists: Lists, s: &mut [u32], steps: &[u8]) -> io::Result<()>
+    requires s_len { length s.old ≡ 2 * lists.nc + 3 * lists.nn }
 {
-    let mut c: usize = 0;
-    while c < nc {
-        show_row(s, nc, nn, c);
-        c += 1;
+    print!(rt; "start")?;
+    show(rt, lists, s)?;
+    lists.init(s);
+    print!(rt; "init")?;
+    show(rt, lists, s)?;
+    for &step in steps.as_chunks().0 {
+        take_step(rt, lists, s, step)?;
     }
+    Ok(())
 }
 
-fn show(s: &[u32], nc: usize, nn: usize)
-    requires sizes { Sizes nc nn }
-    requires s_len { length s.now ≡ 2 * nc + 3 * nn }
-{
-    if linked_list::check_links(s, nc, nn) {
-        show_rows(s, nc, nn);
-    } else {
-        io::write_all(1, b" torn");
-    }
-    io::write_all(1, b"\n");
-}
-
-fn step(s: &mut [u32], nc: usize, nn: usize, what: u8, a: u8, b: u8, c: u8)
-    requires sizes { Sizes nc nn }
-    requires s_len { length s.old ≡ 2 * nc + 3 * nn }
-{
-    let text = [what, a, b, c];
-    io::write_all(1, &text);
-    if act(s, nc, nn, what, a, b, c) {
-        io::write_all(1, b" done");
-    } else {
-        io::write_all(1, b" refused");
-    }
-    show(s, nc, nn);
-}
-
-fn play(s: &mut [u32], nc: usize, nn: usize, steps: &[u8])
-    requires sizes { Sizes nc nn }
-    requires s_len { length s.old ≡ 2 * nc + 3 * nn }
-{
-    io::write_all(1, b"start");
-    show(s, nc, nn);
-    linked_list::init(s, nc, nn);
-    io::write_all(1, b"init");
-    show(s, nc, nn);
-    let mut j: usize = 0;
-    while steps.len() - j >= 4 {
-        step(
-            s,
-            nc,
-            nn,
-            steps[j],
-            steps[j + 1],
-            steps[j + 2],
-            steps[j + 3],
-        );
-        j += 4;
-    }
-}
-
-fn main() {
+fn main(rt: HostRuntime) -> io::Result<()> {
     let mut one = [7u32; 8];
     play(
+        &rt,
+        Lists { nc: 1, nn: 2 },
         &mut one,
-        1,
-        2,
         b"N000U000F001F001B000N000U001U000A000P000M000M010F100F002",
-    );
+    )?;
     let mut two = [1u32; 22];
     play(
+        &rt,
+        Lists { nc: 2, nn: 6 },
         &mut two,
-        2,
-        6,
         b"B000B001F002I013I094A005N000U002U005U004N000B104P005M010M010M100P102U005T005F003T000T096T156T212N000T090T150T210T041U000T043U003",
-    );
+    )
 }

@@ -5,6 +5,15 @@ use Rattle.std.proofs.Math.Option.{Option}
 use Rattle.seqs.specs.Seqs.{tick}
 use Rattle.places.specs.Store.{op, Thing, Thing-dec, State, Live, up}
 use Rattle.places.specs.Walk.{over}
+use Rattle.edit.specs.Record.{Member, operation, block}
+use Rattle.context.specs.Nest.{nested_kind}
+use Rattle.links.specs.declared.Sought.{Sought}
+use Rattle.links.specs.declared.Step.{Step}
+use Rattle.links.specs.declared.Step.TheVariants.{Ended, Met, At}
+
+-- the thing that is looked for
+abbrev pub thing_at : Sought → Thing
+thing_at x = (nested_kind x.kind, x.place)
 
 -- how often x is met in n steps up from y
 abbrev pub climbed : (Thing → Option Thing) → ℕ → Thing → Thing → ℕ
@@ -16,13 +25,19 @@ abbrev pub thrice : ℕ → ℕ
 thrice zero = zero
 thrice (suc n) = suc (suc (suc (thrice n)))
 
--- the codes of a part of the climb: 0 where it ended, 1 where it met x, p + 2 where it came to the operation at p
-abbrev pub reached : (ℕ → ℕ) → ℕ → ℕ
-reached f zero = 0
-reached f (suc zero) = 1
-reached f (suc (suc p)) = f p
+-- what a part of the climb says of the whole: nothing is met where it ended, x where it met it, and else what f says of the
+-- operation that it came to
+abbrev pub reached : (ℕ → ℕ) → Step → ℕ
+reached f Ended = 0
+reached f Met = 1
+reached f (At p) = f p
 
--- s is the code of the climb from y to the next operation: it takes as many steps as g adds
-pub record StepIs (P : State) (x y : Thing) (g : ℕ → ℕ) (s : ℕ) : Type 0 where
+-- s is the climb from y to the next operation: it takes as many steps as g adds
+pub record StepIs (P : State) (x y : Thing) (g : ℕ → ℕ) (s : Step) : Type 0 where
   pub met : (n : ℕ) → (0 < climbed (up P) (g n) x y) ↔ (0 < reached (λ p. climbed (up P) n x (op, p)) s)
-  pub live : (p : ℕ) → s ≡ suc (suc p) → Live P (op, p)
+  pub live : (p : ℕ) → s ≡ At p → Live P (op, p)
+
+-- the steps from a member's container, a block or a region, to an operation, before n more
+abbrev pub container_steps : Member → ℕ → ℕ
+container_steps operation n = suc (suc n)
+container_steps block n = suc n

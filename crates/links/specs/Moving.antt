@@ -1,7 +1,9 @@
 -- A region moves to another operation: what its tests say.
 -- Assumes nothing: these are definitions.
-use Rattle.std.specs.Prelude.{◌≡◌, List, ℕ, ◌<◌}
+use Rattle.std.specs.Prelude.{◌≡◌, List, ℕ, Result, Ok, Err}
 use Rattle.std.proofs.Math.Option.{some}
+use Rattle.edit.specs.declared.Refusal.{Refusal}
+use Rattle.edit.specs.Kinds.{number_of}
 use Rattle.edit.specs.Record.{move_region}
 use Rattle.rules.specs.Refusal.{refusal_of}
 use Rattle.places.specs.Store.{op, reg, regions, regs, State, Live}
@@ -10,8 +12,6 @@ use Rattle.places.specs.Members.{move_code}
 use Rattle.context.specs.declared.Layout.{Layout}
 use Rattle.context.specs.Memory.{state_of}
 use Rattle.context.specs.Performed.{abs}
-use Rattle.links.specs.declared.Tested.{Tested}
-use Rattle.links.specs.declared.Tested.TheVariants.{No, Yes}
 
 -- r is the refusal for the region at n and the operation at k, or 0
 pub record MayMove (P : State) (n k r : ℕ) : Type 0 where
@@ -26,6 +26,6 @@ pub record Moving (l : Layout) (x y n k : ℕ) (m : List ℕ) : Type 0 where
   pub none : refusal_of (abs l m) (move_region x y) ≡ 0
   pub tests : MayMove (state_of l m) n k 0
 
-abbrev pub MoveTested : Layout → ℕ → ℕ → List ℕ → Tested → Type 0
-MoveTested l x y m (No t) = (0 < t) × (refusal_of (abs l m) (move_region x y) ≡ t)
-MoveTested l x y m (Yes n k) = Moving l x y n k m
+abbrev pub MoveTested : Layout → ℕ → ℕ → List ℕ → Result (ℕ × ℕ) Refusal → Type 0
+MoveTested l x y m (Err e) = refusal_of (abs l m) (move_region x y) ≡ number_of e
+MoveTested l x y m (Ok (n, k)) = Moving l x y n k m

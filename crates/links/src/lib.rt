@@ -1,372 +1,307 @@
 // The edits on links, 21 to 31: operations in blocks, blocks in regions, regions of operations. Ported from pliron 0.20.0
 // (linked_list.rs, operation.rs, basic_block.rs, region.rs; Apache-2.0).
-// `w` tells what is put into what: 0 for an operation in a block, 1 for a block in a region.
+// A member is what is put into a container: an operation into a block, or a block into a region.
 #![tactic(auto)]
 
-ghost use Rattle.std.specs.Prelude.{◌≡◌, suc, ◌+◌, ◌≤◌, ◌<◌};
-ghost use Rattle.seqs.specs.Seqs.{count};
-ghost use Rattle.table.specs.Table.{Says};
+ghost use Rattle.std.specs.Prelude.{◌≡◌, suc, ◌+◌, ◌<◌};
+ghost use Rattle.seqs.specs.Seqs.{Says, count};
+ghost use Rattle.edit.specs.Kinds.{member_of, code_of};
 ghost use Rattle.edit.specs.Record.{link_after, link_before, link_front, link_back, unlink, move_region};
 ghost use Rattle.places.specs.Store.{op, blk, reg, Live, Thing-dec, up};
 ghost use Rattle.places.specs.Walk.{walk};
 ghost use Rattle.places.specs.Members.{member_at, container_at, enter_code, beside_code};
-ghost use Rattle.places.specs.Roles.{member_by};
-ghost use Rattle.context.specs.Layout.{kind_of};
+ghost use Rattle.places.specs.Roles.{container_kind};
+ghost use Rattle.context.specs.Kinds.{kind_of};
+ghost use Rattle.context.specs.Nest.{nested_kind};
 ghost use Rattle.context.specs.Memory.{state_of, SoundStore};
 ghost use Rattle.context.specs.Performed.{Performed};
-ghost use Rattle.links.specs.Climbing.{climbed, thrice, StepIs};
-ghost use Rattle.links.specs.Tests.{missing_code, EnterTested, BesideTested};
+ghost use Rattle.links.specs.Climbing.{thing_at, climbed, thrice, StepIs, container_steps};
+ghost use Rattle.links.specs.Tests.{EnterTested, BesideTested};
 ghost use Rattle.links.specs.Moving.{MayMove, MoveTested};
 
-use bits::Found;
-use context::Layout;
-use edit::Answer;
+use context::{Family, Kind, Layout};
+use edit::{Answer, Member, Nested, Refusal};
 
-// The tests before an edit: the refusal, or the places of the two things that it names.
+// The most regions of an operation.
+const MOST_REGIONS: usize = 64;
+
+// What the climb looks for: a thing with an inside, by its kind and its place.
 #[derive(Clone, Copy)]
-pub enum Tested {
-    No(u32),
-    Yes(usize, usize),
+struct Sought {
+    kind: Nested,
+    place: usize,
 }
 
-// Whether the thing of the kind `j` at `y` is the one of the kind `k` at `x`.
-fn is_it(k: usize, x: usize, j: usize, y: usize) -> bool
-    ensures { Says result ((k ≡ j) × (x ≡ y)) }
-{
-    if k != j {
-        return false;
+impl Sought {
+    // Whether it is the thing of this kind at this place.
+    fn is(self, kind: Nested, place: usize) -> bool
+        ensures { Says result (thing_at self ≡ (nested_kind kind, place)) }
+    {
+        self.kind == kind && self.place == place
     }
-    x == y
 }
 
-// From the region at `r` up to its operation: 1 where the region is the thing of the kind `k` at `x`, p + 2 for the operation at p.
-fn region_step(m: &[u32], l: Layout, k: usize, x: usize, r: usize) -> usize
+// Where a part of the climb comes to: at its end, at what it looks for, or at the operation at a place.
+#[derive(Clone, Copy)]
+enum Step {
+    Ended,
+    Met,
+    At(usize),
+}
+
+// The kind of what a member stands in.
+fn container(w: Member) -> Kind
+    ensures { kind_of result ≡ container_kind (member_of w) }
+{
+    match w {
+        Member::Operation => Kind::Block,
+        Member::Block => Kind::Region,
+    }
+}
+
+// The member at the place `n`.
+fn member(w: Member, n: usize) -> Sought
+    ensures { thing_at result ≡ member_at (member_of w) n }
+{
+    let kind = match w {
+        Member::Operation => Nested::Operation,
+        Member::Block => Nested::Block,
+    };
+    Sought { kind, place: n }
+}
+
+// From the region at `r` up to its operation, unless the region is `x`.
+fn region_step(m: &[u32], l: Layout, x: Sought, r: usize) -> Step
     requires sound_store { SoundStore l m.now }
-    requires k_bound { k ≤ 2 }
     requires live { Live (state_of l m.now) (reg, r) }
-    ensures { StepIs (state_of l m.now) (kind_of k, x) (reg, r) (λ n. suc n) result }
+    ensures { StepIs (state_of l m.now) (thing_at x) (reg, r) (λ n. suc n) result }
 {
-    let same = is_it(k, x, 2, r);
-    if same {
-        return 1;
+    if x.is(Nested::Region, r) {
+        return Step::Met;
     }
-    let p = context::home_of(m, l, 3, r);
-    if p == 0 {
-        return 0;
+    match context::home_of(m, l, Family::Regions, r) {
+        Some(o) => Step::At(o),
+        None => Step::Ended,
     }
-    p + 1
 }
 
-// The same from the block at `b`, over its region; 0 where it is in none.
-fn block_step(m: &[u32], l: Layout, k: usize, x: usize, b: usize) -> usize
+// The same from the block at `b`, over its region; a block in none is an end.
+fn block_step(m: &[u32], l: Layout, x: Sought, b: usize) -> Step
     requires sound_store { SoundStore l m.now }
-    requires k_bound { k ≤ 2 }
     requires live { Live (state_of l m.now) (blk, b) }
-    ensures { StepIs (state_of l m.now) (kind_of k, x) (blk, b) (λ n. suc (suc n)) result }
+    ensures { StepIs (state_of l m.now) (thing_at x) (blk, b) (λ n. suc (suc n)) result }
 {
-    let same = is_it(k, x, 1, b);
-    if same {
-        return 1;
+    if x.is(Nested::Block, b) {
+        return Step::Met;
     }
-    let r = context::home_of(m, l, 5, b);
-    if r == 0 {
-        return 0;
+    match context::home_of(m, l, Family::Blocks, b) {
+        Some(r) => region_step(m, l, x, r),
+        None => Step::Ended,
     }
-    region_step(m, l, k, x, r - 1)
 }
 
-// Whether the operation at `o` is the thing of the kind `k` at `x`, or lies in it: climbs from parent to parent.
-fn operation_in(m: &[u32], l: Layout, k: usize, x: usize, o: usize, depth: usize) -> bool
+// The same from the container at `c`, a block or a region.
+fn container_step(m: &[u32], l: Layout, w: Member, x: Sought, c: usize) -> Step
     requires sound_store { SoundStore l m.now }
-    requires k_bound { k ≤ 2 }
+    requires live { Live (state_of l m.now) (container_at (member_of w) c) }
+    ensures { StepIs (state_of l m.now) (thing_at x) (container_at (member_of w) c) (container_steps (member_of w)) result }
+{
+    match w {
+        Member::Operation => block_step(m, l, x, c),
+        Member::Block => region_step(m, l, x, c),
+    }
+}
+
+// Whether the operation at `o` is `x`, or lies in it: climbs from parent to parent.
+fn operation_in(m: &[u32], l: Layout, x: Sought, o: usize, depth: usize) -> bool
+    requires sound_store { SoundStore l m.now }
     requires live { Live (state_of l m.now) (op, o) }
-    ensures { Says result (0 < climbed (up (state_of l m.now)) (thrice depth) (kind_of k, x) (op, o)) }
+    ensures { Says result (0 < climbed (up (state_of l m.now)) (thrice depth) (thing_at x) (op, o)) }
 {
     if depth == 0 {
         return false;
     }
-    let same = is_it(k, x, 0, o);
-    if same {
+    if x.is(Nested::Operation, o) {
         return true;
     }
-    let b = context::home_of(m, l, 4, o);
-    if b == 0 {
+    let Some(b) = context::home_of(m, l, Family::Operations, o) else {
         return false;
+    };
+    match block_step(m, l, x, b) {
+        Step::Ended => false,
+        Step::Met => true,
+        Step::At(p) => operation_in(m, l, x, p, depth - 1),
     }
-    let s = block_step(m, l, k, x, b - 1);
-    if s < 2 {
-        return s == 1;
-    }
-    operation_in(m, l, k, x, s - 2, depth - 1)
-}
-
-// The same of the block at `b`.
-fn block_in(m: &[u32], l: Layout, k: usize, x: usize, b: usize, depth: usize) -> bool
-    requires sound_store { SoundStore l m.now }
-    requires k_bound { k ≤ 2 }
-    requires live { Live (state_of l m.now) (blk, b) }
-    ensures { Says result (0 < climbed (up (state_of l m.now)) (suc (suc (thrice depth))) (kind_of k, x) (blk, b)) }
-{
-    let s = block_step(m, l, k, x, b);
-    if s < 2 {
-        return s == 1;
-    }
-    operation_in(m, l, k, x, s - 2, depth)
-}
-
-// The same of the region at `r`.
-fn region_in(m: &[u32], l: Layout, k: usize, x: usize, r: usize, depth: usize) -> bool
-    requires sound_store { SoundStore l m.now }
-    requires k_bound { k ≤ 2 }
-    requires live { Live (state_of l m.now) (reg, r) }
-    ensures { Says result (0 < climbed (up (state_of l m.now)) (suc (thrice depth)) (kind_of k, x) (reg, r)) }
-{
-    let s = region_step(m, l, k, x, r);
-    if s < 2 {
-        return s == 1;
-    }
-    operation_in(m, l, k, x, s - 2, depth)
 }
 
 // Whether the container at `c` lies in the member at `n`. A member that holds nothing needs no climb.
-fn contained_in(m: &[u32], l: Layout, w: usize, n: usize, c: usize) -> bool
+fn contained_in(m: &[u32], l: Layout, w: Member, n: usize, c: usize) -> bool
     requires sound_store { SoundStore l m.now }
-    requires w_bound { w ≤ 1 }
-    requires live { Live (state_of l m.now) (member_at (member_by w) n) }
-    requires live_2 { Live (state_of l m.now) (container_at (member_by w) c) }
-    ensures { Says result (0 < count Thing-dec (container_at (member_by w) c) (walk (state_of l m.now) (member_at (member_by w) n))) }
+    requires live { Live (state_of l m.now) (member_at (member_of w) n) }
+    requires live_2 { Live (state_of l m.now) (container_at (member_of w) c) }
+    ensures { Says result (0 < count Thing-dec (container_at (member_of w) c) (walk (state_of l m.now) (member_at (member_of w) n))) }
 {
-    let first = context::first_of(m, l, 3 + w, n);
-    if first == 0 {
+    let x = member(w, n);
+    if context::first_of(m, l, Family::from(x.kind), x.place).is_none() {
         return false;
     }
-    let depth = context::live_count(m, l, 0);
-    if w == 0 {
-        return block_in(m, l, 0, n, c, depth);
+    match container_step(m, l, w, x, c) {
+        Step::Ended => false,
+        Step::Met => true,
+        Step::At(o) => operation_in(m, l, x, o, context::live_count(m, l, Kind::Operation)),
     }
-    region_in(m, l, 1, n, c, depth)
 }
 
-// 15 where the member at `n` is linked already, 17 where the container at `c` lies in it, and else 0.
-fn may_enter(m: &[u32], l: Layout, w: usize, n: usize, c: usize) -> u32
+// Refused where the member at `n` is linked already (15), and where the container at `c` lies in it (17).
+fn may_enter(m: &[u32], l: Layout, w: Member, n: usize, c: usize) -> Result<(), Refusal>
     requires sound_store { SoundStore l m.now }
-    requires w_bound { w ≤ 1 }
-    requires live { Live (state_of l m.now) (member_at (member_by w) n) }
-    requires live_2 { Live (state_of l m.now) (container_at (member_by w) c) }
-    ensures { result ≡ enter_code (state_of l m.now) (member_by w) n c }
+    requires live { Live (state_of l m.now) (member_at (member_of w) n) }
+    requires live_2 { Live (state_of l m.now) (container_at (member_of w) c) }
+    ensures { code_of result ≡ enter_code (state_of l m.now) (member_of w) n c }
 {
-    let h = context::home_of(m, l, 4 + w, n);
-    if h != 0 {
-        return 15;
+    if context::home_of(m, l, Family::from(w), n).is_some() {
+        return Err(Refusal::Linked);
     }
-    let inside = contained_in(m, l, w, n, c);
-    if inside {
-        return 17;
+    if contained_in(m, l, w, n, c) {
+        return Err(Refusal::InsideItself);
     }
-    0
+    Ok(())
 }
 
-// 15 where the member at `n` is linked already, 16 where the mark at `k` is not, 17 where the mark's container lies in the member, and else 0.
-fn may_stand_by(m: &[u32], l: Layout, w: usize, n: usize, k: usize) -> u32
+// Refused where the member at `n` is linked already (15), where the mark at `k` is not (16), and where the mark's container lies
+// in the member (17).
+fn may_stand_by(m: &[u32], l: Layout, w: Member, n: usize, k: usize) -> Result<(), Refusal>
     requires sound_store { SoundStore l m.now }
-    requires w_bound { w ≤ 1 }
-    requires live { Live (state_of l m.now) (member_at (member_by w) n) }
-    requires live_2 { Live (state_of l m.now) (member_at (member_by w) k) }
-    ensures { result ≡ beside_code (state_of l m.now) (member_by w) n k }
+    requires live { Live (state_of l m.now) (member_at (member_of w) n) }
+    requires live_2 { Live (state_of l m.now) (member_at (member_of w) k) }
+    ensures { code_of result ≡ beside_code (state_of l m.now) (member_of w) n k }
 {
-    let h = context::home_of(m, l, 4 + w, n);
-    if h != 0 {
-        return 15;
+    if context::home_of(m, l, Family::from(w), n).is_some() {
+        return Err(Refusal::Linked);
     }
-    let g = context::home_of(m, l, 4 + w, k);
-    if g == 0 {
-        return 16;
+    let c = context::home_of(m, l, Family::from(w), k).ok_or(Refusal::Unlinked)?;
+    if contained_in(m, l, w, n, c) {
+        return Err(Refusal::InsideItself);
     }
-    let inside = contained_in(m, l, w, n, g - 1);
-    if inside {
-        return 17;
-    }
-    0
+    Ok(())
 }
 
-// The refusal where nothing of the kind `k` has the number: operation, block, region.
-fn missing(k: usize) -> u32
-    requires { k ≤ 2 }
-    ensures { result ≡ missing_code k }
+// The tests of the edits that put a member at the front or at the back of a container: the places of the two.
+fn test_enter(m: &[u32], l: Layout, w: Member, x: u32, c: u32) -> Result<(usize, usize), Refusal>
+    requires { SoundStore l m.now }
+    ensures { EnterTested l (member_of w) x c m.now result }
 {
-    if k == 0 {
-        return 7;
-    }
-    if k == 1 {
-        return 8;
-    }
-    9
+    let n = context::look_up(m, l, Kind::from(w), x)?;
+    let k = context::look_up(m, l, container(w), c)?;
+    may_enter(m, l, w, n, k)?;
+    Ok((n, k))
 }
 
-// The tests of the edits that put a member at the front or at the back of a container.
-fn test_enter(m: &[u32], l: Layout, w: usize, x: u32, c: u32) -> Tested
-    requires sound_store { SoundStore l m.now }
-    requires w_bound { w ≤ 1 }
-    ensures { EnterTested l (member_by w) x c m.now result }
+// The tests of the edits that put a member after or before a mark: the places of the two.
+fn test_beside(
+    m: &[u32],
+    l: Layout,
+    w: Member,
+    x: u32,
+    mark: u32,
+) -> Result<(usize, usize), Refusal>
+    requires { SoundStore l m.now }
+    ensures { BesideTested l (member_of w) x mark m.now result }
 {
-    let a = context::find(m, l, w, x);
-    let Found::At(n) = a else {
-        return Tested::No(missing(w));
-    };
-    let b = context::find(m, l, w + 1, c);
-    let Found::At(k) = b else {
-        return Tested::No(missing(w + 1));
-    };
-    let t = may_enter(m, l, w, n, k);
-    if t != 0 {
-        return Tested::No(t);
-    }
-    Tested::Yes(n, k)
-}
-
-// The tests of the edits that put a member after or before a mark.
-fn test_beside(m: &[u32], l: Layout, w: usize, x: u32, mark: u32) -> Tested
-    requires sound_store { SoundStore l m.now }
-    requires w_bound { w ≤ 1 }
-    ensures { BesideTested l (member_by w) x mark m.now result }
-{
-    let a = context::find(m, l, w, x);
-    let Found::At(n) = a else {
-        return Tested::No(missing(w));
-    };
-    let b = context::find(m, l, w, mark);
-    let Found::At(k) = b else {
-        return Tested::No(missing(w));
-    };
-    let t = may_stand_by(m, l, w, n, k);
-    if t != 0 {
-        return Tested::No(t);
-    }
-    Tested::Yes(n, k)
+    let n = context::look_up(m, l, Kind::from(w), x)?;
+    let k = context::look_up(m, l, Kind::from(w), mark)?;
+    may_stand_by(m, l, w, n, k)?;
+    Ok((n, k))
 }
 
 // Edits 23 and 28: the member `x` comes to stand first in the container `c`. Refused: 7 to 9, 15, 17.
-pub fn link_front(m: &mut [u32], l: Layout, w: usize, x: u32, c: u32) -> Answer
-    requires sound_store { SoundStore l m.old }
-    requires w_bound { w ≤ 1 }
-    ensures { Performed l (link_front (member_by w) x c) m.old m.new result }
+// Kept (point 2): it and the next differ in one call; a function over that call would be as long as the two bodies.
+pub fn link_front(m: &mut [u32], l: Layout, w: Member, x: u32, c: u32) -> Answer
+    requires { SoundStore l m.old }
+    ensures { Performed l (link_front (member_of w) x c) m.old m.new result }
 {
-    let t = test_enter(m, l, w, x, c);
-    match t {
-        Tested::No(r) => Answer::Refused(r),
-        Tested::Yes(n, k) => {
-            context::lists::link_front(m, l, 4 + w, k, n);
-            Answer::Accepted(0, 0)
-        }
-    }
+    let (n, k) = test_enter(m, l, w, x, c)?;
+    context::lists::link_front(m, l, w, k, n);
+    Ok((0, 0))
 }
 
 // Edits 24 and 29: the member `x` comes to stand last in the container `c`. Refused: 7 to 9, 15, 17.
-pub fn link_back(m: &mut [u32], l: Layout, w: usize, x: u32, c: u32) -> Answer
-    requires sound_store { SoundStore l m.old }
-    requires w_bound { w ≤ 1 }
-    ensures { Performed l (link_back (member_by w) x c) m.old m.new result }
+pub fn link_back(m: &mut [u32], l: Layout, w: Member, x: u32, c: u32) -> Answer
+    requires { SoundStore l m.old }
+    ensures { Performed l (link_back (member_of w) x c) m.old m.new result }
 {
-    let t = test_enter(m, l, w, x, c);
-    match t {
-        Tested::No(r) => Answer::Refused(r),
-        Tested::Yes(n, k) => {
-            context::lists::link_back(m, l, 4 + w, k, n);
-            Answer::Accepted(0, 0)
-        }
-    }
+    let (n, k) = test_enter(m, l, w, x, c)?;
+    context::lists::link_back(m, l, w, k, n);
+    Ok((0, 0))
 }
 
 // Edits 21 and 26: the member `x` comes to stand right after the member `mark`. Refused: 7, 8, 15, 16, 17.
-pub fn link_after(m: &mut [u32], l: Layout, w: usize, x: u32, mark: u32) -> Answer
-    requires sound_store { SoundStore l m.old }
-    requires w_bound { w ≤ 1 }
-    ensures { Performed l (link_after (member_by w) x mark) m.old m.new result }
+// Kept (point 2): it and the next differ in one call; a function over that call would be as long as the two bodies.
+pub fn link_after(m: &mut [u32], l: Layout, w: Member, x: u32, mark: u32) -> Answer
+    requires { SoundStore l m.old }
+    ensures { Performed l (link_after (member_of w) x mark) m.old m.new result }
 {
-    let t = test_beside(m, l, w, x, mark);
-    match t {
-        Tested::No(r) => Answer::Refused(r),
-        Tested::Yes(n, k) => {
-            context::lists::link_after(m, l, 4 + w, k, n);
-            Answer::Accepted(0, 0)
-        }
-    }
+    let (n, k) = test_beside(m, l, w, x, mark)?;
+    context::lists::link_after(m, l, w, k, n);
+    Ok((0, 0))
 }
 
 // Edits 22 and 27: the member `x` comes to stand right before the member `mark`. Refused: 7, 8, 15, 16, 17.
-pub fn link_before(m: &mut [u32], l: Layout, w: usize, x: u32, mark: u32) -> Answer
-    requires sound_store { SoundStore l m.old }
-    requires w_bound { w ≤ 1 }
-    ensures { Performed l (link_before (member_by w) x mark) m.old m.new result }
+pub fn link_before(m: &mut [u32], l: Layout, w: Member, x: u32, mark: u32) -> Answer
+    requires { SoundStore l m.old }
+    ensures { Performed l (link_before (member_of w) x mark) m.old m.new result }
 {
-    let t = test_beside(m, l, w, x, mark);
-    match t {
-        Tested::No(r) => Answer::Refused(r),
-        Tested::Yes(n, k) => {
-            context::lists::link_before(m, l, 4 + w, k, n);
-            Answer::Accepted(0, 0)
-        }
-    }
+    let (n, k) = test_beside(m, l, w, x, mark)?;
+    context::lists::link_before(m, l, w, k, n);
+    Ok((0, 0))
 }
 
 // Edits 25 and 30: the member `x` leaves its container. Refused: 7, 8, 16.
-pub fn unlink_from(m: &mut [u32], l: Layout, w: usize, x: u32) -> Answer
-    requires sound_store { SoundStore l m.old }
-    requires w_bound { w ≤ 1 }
-    ensures { Performed l (unlink (member_by w) x) m.old m.new result }
+pub fn unlink_from(m: &mut [u32], l: Layout, w: Member, x: u32) -> Answer
+    requires { SoundStore l m.old }
+    ensures { Performed l (unlink (member_of w) x) m.old m.new result }
 {
-    let a = context::find(m, l, w, x);
-    let Found::At(n) = a else {
-        return Answer::Refused(missing(w));
-    };
-    let h = context::home_of(m, l, 4 + w, n);
-    if h == 0 {
-        return Answer::Refused(16);
+    let n = context::look_up(m, l, Kind::from(w), x)?;
+    if context::home_of(m, l, Family::from(w), n).is_none() {
+        return Err(Refusal::Unlinked);
     }
-    context::lists::unlink(m, l, 4 + w, n);
-    Answer::Accepted(0, 0)
+    context::lists::unlink(m, l, w, n);
+    Ok((0, 0))
 }
 
-// What refuses that the region at `n` moves to the operation at `k`: 17, 19; 0 for nothing, and for its own operation.
-fn may_move(m: &[u32], l: Layout, n: usize, k: usize) -> u32
+// Refused where the operation at `k` lies in the region at `n` (17) and where it has regions enough (19), but never for the
+// region's own operation.
+fn may_move(m: &[u32], l: Layout, n: usize, k: usize) -> Result<(), Refusal>
     requires sound_store { SoundStore l m.now }
     requires live { Live (state_of l m.now) (reg, n) }
     requires live_2 { Live (state_of l m.now) (op, k) }
-    ensures { MayMove (state_of l m.now) n k result }
+    ensures { MayMove (state_of l m.now) n k (code_of result) }
 {
-    let p = context::home_of(m, l, 3, n);
-    if p == k + 1 {
-        return 0;
+    if context::home_of(m, l, Family::Regions, n) == Some(k) {
+        return Ok(());
     }
-    let depth = context::live_count(m, l, 0);
-    let inside = operation_in(m, l, 2, n, k, depth);
-    if inside {
-        return 17;
+    let x = Sought {
+        kind: Nested::Region,
+        place: n,
+    };
+    if operation_in(m, l, x, k, context::live_count(m, l, Kind::Operation)) {
+        return Err(Refusal::InsideItself);
     }
-    let c = context::row_length(m, l, 3, k);
-    if c >= 64 {
-        return 19;
+    if context::row_length(m, l, Family::Regions, k) >= MOST_REGIONS {
+        return Err(Refusal::ListFull);
     }
-    0
+    Ok(())
 }
 
-fn test_move(m: &[u32], l: Layout, r: u32, o: u32) -> Tested
+// The tests of the move of a region: its place, and the operation's.
+fn test_move(m: &[u32], l: Layout, r: u32, o: u32) -> Result<(usize, usize), Refusal>
     requires { SoundStore l m.now }
     ensures { MoveTested l r o m.now result }
 {
-    let a = context::find(m, l, 2, r);
-    let Found::At(n) = a else {
-        return Tested::No(9);
-    };
-    let b = context::find(m, l, 0, o);
-    let Found::At(k) = b else {
-        return Tested::No(7);
-    };
-    let t = may_move(m, l, n, k);
-    if t != 0 {
-        return Tested::No(t);
-    }
-    Tested::Yes(n, k)
+    let n = context::look_up(m, l, Kind::Region, r)?;
+    let k = context::look_up(m, l, Kind::Operation, o)?;
+    may_move(m, l, n, k)?;
+    Ok((n, k))
 }
 
 // Edit 31: the region `r` moves to the operation `o`. Refused: 9, 7, 17, 19; to its own operation nothing changes.
@@ -374,16 +309,9 @@ pub fn move_region(m: &mut [u32], l: Layout, r: u32, o: u32) -> Answer
     requires { SoundStore l m.old }
     ensures { Performed l (move_region r o) m.old m.new result }
 {
-    let t = test_move(m, l, r, o);
-    match t {
-        Tested::No(x) => Answer::Refused(x),
-        Tested::Yes(n, k) => {
-            let p = context::home_of(m, l, 3, n);
-            if p == k + 1 {
-                return Answer::Accepted(0, 0);
-            }
-            context::region::move_region(m, l, n, k);
-            Answer::Accepted(0, 0)
-        }
+    let (n, k) = test_move(m, l, r, o)?;
+    if context::home_of(m, l, Family::Regions, n) != Some(k) {
+        context::region::move_region(m, l, n, k);
     }
+    Ok((0, 0))
 }

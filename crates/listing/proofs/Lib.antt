@@ -1,4 +1,5 @@
 pub mod Writing
+pub mod Pens
 pub mod Rows
 pub mod Uses
 pub mod Texts

@@ -1,13 +1,19 @@
 -- What is written for one thing in a list, for what a thing stands in, for an answer; and the bounds that the code asks. Assumes nothing.
 use mathlib.Core.Path.{◌≡◌, refl, sym, ap, ap₂, ◌∙◌, subst}
 use mathlib.Core.Bool.{Bool, true, false}
-use mathlib.Core.List.{List, [], ◌∷◌, ◌++◌}
-use mathlib.Core.Option.{Option, some}
-use Prim.Native.Nat.{ℕ, zero, suc, ◌+◌, ◌-◌, ◌≤◌, ◌<◌}
+use mathlib.Core.List.{List, [], ◌∷◌, ◌++◌, append_assoc, append-nil}
+use lib.ListN.{length, take, drop, get_or}
+use Rattle.std.specs.Simd.{first_chunks}
+use Rattle.std.proofs.lemmas.List.{get_or-take, get_or-drop}
+use mathlib.Core.Option.{Option}
+use Rattle.std.specs.Prelude as Rust
+use Rattle.std.specs.Prelude.{Some, None}
+use Prim.Native.Nat.{ℕ, zero, suc, ◌+◌, ◌*◌, ◌/◌, ◌≤◌, ◌<◌}
 use native.Mathlib.Numerals.{add-one}
 use native.Mathlib.Omega.{arith}
 use borrow.Author.Tests.{eq-eqb, ne_eqb}
-use Rattle.places.specs.Store.{Kind, op, blk, reg, val, usg, Fam, Thing, Con, State, Live}
+use Rattle.places.specs.Store as P
+use Rattle.places.specs.Store.{op, blk, reg, val, usg, Fam, Thing, Con, State, Live}
 use Rattle.places.specs.View.{num, home_by}
 use Rattle.places.specs.Hist.{number}
 use Rattle.places.specs.Parts.{node_in, con_of, rows_of}
@@ -17,137 +23,164 @@ use Rattle.rules.specs.Table.{find}
 use Rattle.rules.specs.Step.{definition_number}
 use Rattle.rules.specs.Listing as rules
 use Rattle.context.specs.declared.Layout.{Layout}
-use Rattle.context.specs.Layout.{fam_of, kind_of, cap_of, Caps}
-use Rattle.context.specs.Memory.{con, decode, state_of, SoundStore, HomeIs}
+use Rattle.context.specs.Layout.{cap_of, nn_of, Caps}
+use Rattle.context.specs.declared.Kind.{Kind}
+use Rattle.context.specs.declared.Family.{Family}
+use Rattle.context.specs.declared.Family.TheVariants.{Slots, UseSets, Values, Regions, Operations, Blocks}
+use Rattle.context.specs.Kinds.{kind_of, fam_of}
+use Rattle.context.specs.Nest.{nested_kind, inner_fam}
+use Rattle.context.proofs.Places.{place<}
+use Rattle.edit.specs.declared.Nested.{Nested}
+use Rattle.edit.specs.declared.Nested.TheVariants.{Operation, Block, Region}
+use Rattle.context.specs.Memory.{con, given, state_of, SoundStore, HomeIs}
 use Rattle.context.specs.Performed.{abs}
-use Rattle.listing.specs.Writer.{Pen, write, Written}
-use Rattle.listing.specs.Lines.{node_text, home_number, Holders, lines, reply_listed, replies_from}
-use Rattle.listing.proofs.Writing.{and_then, left, same_text}
+use Rattle.listing.specs.declared.Pen.{Pen}
+use Rattle.listing.specs.Writer.{Wrote}
+use Rattle.listing.specs.Lines.{node_text, home_number, Holders, reply_listed, replies_from}
+use Rattle.listing.proofs.Pens.{nothing, and_then, same_text}
 
 -- ---- one thing in a list
 
-alone : (s : RState) (f n : ℕ) → (f ≡ 0 → ⊥) → node_text s (fam_of f) n ≡ rules.num n
-alone s zero n h = absurd (h refl)
-alone s (suc zero) n h = refl
-alone s (suc (suc zero)) n h = refl
-alone s (suc (suc (suc zero))) n h = refl
-alone s (suc (suc (suc (suc zero)))) n h = refl
-alone s (suc (suc (suc (suc (suc f))))) n h = refl
+alone : (s : RState) (f : Family) (n : ℕ) → (f ≡ Slots → ⊥) → node_text s (fam_of f) n ≡ rules.num n
+alone s Slots n h = absurd (h refl)
+alone s UseSets n h = refl
+alone s Values n h = refl
+alone s Regions n h = refl
+alone s Operations n h = refl
+alone s Blocks n h = refl
 
-pub node_alone : (s : RState) (f n x : ℕ) {o o₁ : List ℕ} {a b : ℕ} → (f ≡ 0 → ⊥) → x ≡ n → Written (rules.num x) o a o₁ b → Written (node_text s (fam_of f) n) o a o₁ b
-node_alone s f n x h e w = same_text (ap rules.num e ∙ sym (alone s f n h)) w
+module _ (l : Layout) (m : List ℕ) (f : Family) (k : Kind) (p : ℕ) (e : kind_of k ≡ node_in (fam_of f)) where
+  abbrev Q : State
+  Q = state_of l m
 
-module _ (l : Layout) (m : List ℕ) (f q p : ℕ) (e : f ≡ 0) (k : kind_of q ≡ node_in (fam_of f)) where
-  use_kind : kind_of q ≡ usg
-  use_kind = k ∙ ap (λ (j : ℕ). node_in (fam_of j)) e
+  node_number : {x : ℕ} → x ≡ num Q (kind_of k, p) → x ≡ num Q (node_in (fam_of f), p)
+  node_number h = h ∙ ap (λ (t : P.Kind). num Q (t, p)) e
 
-  pub use_live : Live (state_of l m) (kind_of q, p) → Live (state_of l m) (usg, p)
-  use_live h = subst (λ (t : Kind). Live (state_of l m) (t, p)) use_kind h
+  pub node_alone : {x : ℕ} {q q₁ : Pen ℕ} → (f ≡ Slots → ⊥) → x ≡ num Q (kind_of k, p) → Wrote (rules.num x) q q₁ → Wrote (node_text (abs l m) (fam_of f) (num Q (node_in (fam_of f), p))) q q₁
+  node_alone h i w = same_text (ap rules.num (node_number i) ∙ sym (alone (abs l m) f (num Q (node_in (fam_of f), p)) h)) w
 
-  pub node_pair : (x d : ℕ) → x ≡ num (state_of l m) (kind_of q, p) → d ≡ definition_number (find (abs l m).history.uses (num (state_of l m) (usg, p))) → {o o₁ o₂ o₃ : List ℕ} {a a₁ a₂ a₃ : ℕ}
-      → Written (rules.num x) o a o₁ a₁ → Written (58 ∷ []) o₁ a₁ o₂ a₂ → Written (rules.digits 10 d []) o₂ a₂ o₃ a₃
-      → Written (node_text (abs l m) (fam_of f) (num (state_of l m) (kind_of q, p))) o a o₃ a₃
-  node_pair x d ex ed w₁ w₂ w₃ =
-      same_text
-      (ap₂ (λ (y z : ℕ). rules.num y ++ (58 ∷ rules.digits 10 z [])) ex (ed ∙ ap (λ (t : Kind). definition_number (find (abs l m).history.uses (num (state_of l m) (t, p)))) (sym use_kind))
-      ∙ ap (λ (j : ℕ). node_text (abs l m) (fam_of j) (num (state_of l m) (kind_of q, p))) (sym e))
-      (and_then w₁ (and_then w₂ w₃))
+  module _ (z : f ≡ Slots) where
+    pub node_pair : {x d : ℕ} {q q₁ q₂ q₃ : Pen ℕ} → x ≡ num Q (kind_of k, p) → d ≡ definition_number (find (abs l m).history.uses (num Q (usg, p)))
+        → Wrote (rules.num x) q q₁ → Wrote (58 ∷ []) q₁ q₂ → Wrote (rules.digits 10 d []) q₂ q₃
+        → Wrote (node_text (abs l m) (fam_of f) (num Q (node_in (fam_of f), p))) q q₃
+    node_pair i j w₁ w₂ w₃ =
+        same_text
+        (ap₂ (λ (y z : ℕ). rules.num y ++ (58 ∷ rules.digits 10 z [])) (node_number i ∙ ap (λ (g : Family). num Q (node_in (fam_of g), p)) z) j
+        ∙ ap (λ (g : Family). node_text (abs l m) (fam_of g) (num Q (node_in (fam_of g), p))) (sym z))
+        (and_then w₁ (and_then w₂ w₃))
 
 -- ---- what a thing stands in
 
-module _ {l : Layout} {m : List ℕ} {f : Fam} {p h : ℕ} (H : HomeIs l f p m h) where
-  pub home_none : h ≡ 0 → rules.text " -" ≡ rules.or_none (home_number (state_of l m) (node_in f, p) f)
+module _ {l : Layout} {m : List ℕ} {f : Fam} {p : ℕ} {h : Rust.Option ℕ} (H : HomeIs l f p m h) where
+  home_is : {o : Rust.Option ℕ} → h ≡ o → (state_of l m).own (node_in f, p) f ≡ con_of (con l f) (given o)
+  home_is e = H.own ∙ ap (λ (j : Rust.Option ℕ). con_of (con l f) (given j)) e
+
+  home_none : h ≡ None → rules.text " -" ≡ rules.or_none (home_number (state_of l m) (node_in f, p) f)
   unfolding rules.or_none
-  home_none e = sym (ap (λ (o : Option Con). rules.or_none (number (home_by (num (state_of l m)) o))) (H.own ∙ ap (λ (j : ℕ). con_of (con l f) (decode j)) e))
+  home_none e = sym (ap (λ (o : Option Con). rules.or_none (number (home_by (num (state_of l m)) o))) (home_is e))
 
-  stands : (h ≡ 0 → ⊥) → (state_of l m).own (node_in f, p) f ≡ some (con l f (h - 1))
-  stands n = H.own ∙ ap (λ (j : ℕ). con_of (con l f) (decode j)) (let e : h ≡ suc (h - 1) = omega (arith, n) in e)
+  module _ {k : P.Kind} {d : ℕ} (K : Holders l f k) (e : h ≡ Some d) where
+    home_live : SoundStore l m → Live (state_of l m) (k, d)
+    home_live S = subst (λ (z : Thing). Live (state_of l m) z) (K d) (S.sound.linked.link (node_in f, p) f (con l f d) (home_is e)).home
 
-  pub home_live : {k : Kind} → SoundStore l m → Holders l f k → (h ≡ 0 → ⊥) → Live (state_of l m) (k, h - 1)
-  home_live S K n = subst (λ (z : Thing). Live (state_of l m) z) (K (h - 1)) (S.sound.linked.link (node_in f, p) f (con l f (h - 1)) (stands n)).home
+    home_number_lem : {x : ℕ} → x ≡ num (state_of l m) (k, d) → rules.num x ≡ rules.or_none (home_number (state_of l m) (node_in f, p) f)
+    unfolding rules.or_none
+    home_number_lem i = ap rules.num (i ∙ ap (num (state_of l m)) (sym (K d))) ∙ sym (ap (λ (o : Option Con). rules.or_none (number (home_by (num (state_of l m)) o))) (home_is e))
 
-  pub home_number_lem : {k : Kind} {x : ℕ} → Holders l f k → (h ≡ 0 → ⊥) → x ≡ num (state_of l m) (k, h - 1) → rules.num x ≡ rules.or_none (home_number (state_of l m) (node_in f, p) f)
-  unfolding rules.or_none
-  home_number_lem K n e = ap rules.num (e ∙ ap (num (state_of l m)) (sym (K (h - 1)))) ∙ sym (ap (λ (o : Option Con). rules.or_none (number (home_by (num (state_of l m)) o))) (stands n))
-
--- blocks hold operations, regions blocks, operations regions
-pub Blocks : (l : Layout) → Holders l (fam_of 4) blk
+-- operations hold regions, blocks operations, regions blocks
+holds : (l : Layout) (n : Nested) → Holders l (inner_fam n) (nested_kind n)
 unfolding rows_of
-Blocks l d = refl
+holds l Operation d = refl
+holds l Block d = refl
+holds l Region d = refl
 
-pub Regions : (l : Layout) → Holders l (fam_of 5) reg
-unfolding rows_of
-Regions l d = refl
+-- the same by the names that the conversions give
+module _ {l : Layout} {m : List ℕ} (S : SoundStore l m) (n : Nested) (f : Family) {p : ℕ} (e : fam_of f ≡ inner_fam n) where
+  pub inside : Live (state_of l m) (node_in (inner_fam n), p) → p < nn_of l (fam_of f)
+  inside h = subst (λ (g : Fam). p < nn_of l g) (sym e) (place< S (node_in (inner_fam n), p) h)
 
-pub Operations : (l : Layout) → Holders l (fam_of 3) op
-unfolding rows_of
-Operations l d = refl
+  module _ {h : Rust.Option ℕ} (H : HomeIs l (fam_of f) p m h) where
+    H' : HomeIs l (inner_fam n) p m h
+    H' = subst (λ (g : Fam). HomeIs l g p m h) e H
 
-pub cap_small : {l : Layout} → Caps l → (k : Kind) → cap_of l k ≤ 16384
+    pub nowhere : h ≡ None → rules.text " -" ≡ rules.or_none (home_number (state_of l m) (node_in (inner_fam n), p) (inner_fam n))
+    nowhere z = home_none H' z
+
+    module _ (k : Kind) {d : ℕ} (i : kind_of k ≡ nested_kind n) (z : h ≡ Some d) where
+      pub holder_live : Live (state_of l m) (kind_of k, d)
+      holder_live = subst (λ (t : P.Kind). Live (state_of l m) (t, d)) (sym i) (home_live H' (holds l n) z S)
+
+      pub holder_number : {x : ℕ} → x ≡ num (state_of l m) (kind_of k, d) → rules.num x ≡ rules.or_none (home_number (state_of l m) (node_in (inner_fam n), p) (inner_fam n))
+      holder_number j = home_number_lem H' (holds l n) z (j ∙ ap (λ (t : P.Kind). num (state_of l m) (t, d)) i)
+
+pub cap_small : {l : Layout} → Caps l → (k : P.Kind) → cap_of l k ≤ 16384
 cap_small C op = omega (arith, C.ops)
 cap_small C blk = omega (arith, C.blocks)
 cap_small C reg = omega (arith, C.regions)
 cap_small C val = omega (arith, C.values)
 cap_small C usg = C.uses
 
--- ---- a line by the code of its kind
-
-pub kind_line : (s : RState) (P : State) (q p : ℕ) (k : Kind) {o o₁ : List ℕ} {a b : ℕ} → kind_of q ≡ k → Written (lines s P k (p ∷ [])) o a o₁ b → Written (lines s P (kind_of q) (p ∷ [])) o a o₁ b
-kind_line s P q p k e w = same_text (ap (λ (t : Kind). lines s P t (p ∷ [])) (sym e)) w
-
-pub kind_live : (P : State) (q p : ℕ) (k : Kind) → kind_of q ≡ k → Live P (kind_of q, p) → Live P (k, p)
-kind_live P q p k e h = subst (λ (t : Kind). Live P (t, p)) e h
-
-pub lines_none : (s : RState) (P : State) (k : Kind) → lines s P k [] ≡ []
-unfolding rules.op_lines rules.block_lines rules.region_lines rules.value_lines
-lines_none s P op = refl
-lines_none s P blk = refl
-lines_none s P reg = refl
-lines_none s P val = refl
-lines_none s P usg = refl
-
 -- ---- answers
 
-module _ (n : ℕ) (r : Reply) {o o₁ o₂ : List ℕ} {a a₁ a₂ : ℕ} (w₁ : Written (rules.text "edit" ++ rules.num n) o a o₁ a₁) where
-  pub answer_no : {o₃ : List ℕ} {a₃ : ℕ} → (r.refusal ≡ 0 → ⊥) → Written (rules.text " no" ++ rules.num r.refusal) o₁ a₁ o₂ a₂ → Written (10 ∷ []) o₂ a₂ o₃ a₃ → Written (rules.edit_line n r) o a o₃ a₃
+module _ (n : ℕ) (r : Reply) {q q₁ q₂ : Pen ℕ} (w₁ : Wrote (rules.text "edit" ++ rules.num n) q q₁) where
+  pub answer_no : {q₃ : Pen ℕ} → (r.refusal ≡ 0 → ⊥) → Wrote (rules.text " no" ++ rules.num r.refusal) q₁ q₂ → Wrote (10 ∷ []) q₂ q₃ → Wrote (rules.edit_line n r) q q₃
   unfolding rules.edit_line rules.line_end
   answer_no e w₂ w₃ = and_then (and_then w₁ (same_text (ap (λ (t : Bool). elim t [ true ↦ rules.text " ok" ++ rules.num r.a ++ rules.num r.b | false ↦ rules.text " no" ++ rules.num r.refusal ]) (sym (ne_eqb r.refusal 0 e))) w₂)) w₃
 
-  pub answer_ok : {o₃ o₄ : List ℕ} {a₃ a₄ : ℕ} → r.refusal ≡ 0 → Written (rules.text " ok" ++ rules.num r.a) o₁ a₁ o₂ a₂ → Written (rules.num r.b) o₂ a₂ o₃ a₃ → Written (10 ∷ []) o₃ a₃ o₄ a₄ → Written (rules.edit_line n r) o a o₄ a₄
+  pub answer_ok : {q₃ q₄ : Pen ℕ} → r.refusal ≡ 0 → Wrote (rules.text " ok" ++ rules.num r.a) q₁ q₂ → Wrote (rules.num r.b) q₂ q₃ → Wrote (10 ∷ []) q₃ q₄ → Wrote (rules.edit_line n r) q q₄
   unfolding rules.edit_line rules.line_end
   answer_ok e w₂ w₃ w₄ = and_then (and_then w₁ (same_text (ap (λ (t : Bool). elim t [ true ↦ rules.text " ok" ++ rules.num r.a ++ rules.num r.b | false ↦ rules.text " no" ++ rules.num r.refusal ]) (sym (eq-eqb r.refusal 0 e))) (and_then w₂ w₃))) w₄
 
--- the loop over the answers
-module _ (ws : List ℕ) (n i : ℕ) where
-  pub answers_turn : {o o₁ : List ℕ} {a b : ℕ} {p : Pen} → i < n → write (rules.edit_lines i (replies_from ws i (n - i))) (o, a) ≡ p → Written (rules.edit_line i (reply_listed ws i)) o a o₁ b
-      → write (rules.edit_lines (i + 1) (replies_from ws (i + 1) (n - (i + 1)))) (o₁, b) ≡ p
-  unfolding rules.edit_lines
-  answers_turn {o} {o₁} {a} {b} h e w = left (rules.edit_lines (i + 1) (replies_from ws (i + 1) (n - (i + 1)))) (sym (ap (λ (x : List ℕ). write x (o, a)) cut) ∙ e) w
-    where
-      more : n - i ≡ suc (n - (i + 1))
-      more = omega (arith, h)
+-- the loop over the answers: one line more
+more_lines : (ws : List ℕ) (j k : ℕ) → rules.edit_lines j (replies_from ws j (suc k)) ≡ rules.edit_lines j (replies_from ws j k) ++ rules.edit_line (j + k) (reply_listed ws (j + k))
+unfolding rules.edit_lines
+more_lines ws j zero = append-nil (rules.edit_line j (reply_listed ws j)) ∙ ap (λ (i : ℕ). rules.edit_line i (reply_listed ws i)) (let e : j ≡ j + 0 = omega arith in e)
+more_lines ws j (suc k) =
+    ap (λ (t : List ℕ). rules.edit_line j (reply_listed ws j) ++ t)
+    (more_lines ws (suc j) k ∙ ap (λ (i : ℕ). rules.edit_lines (suc j) (replies_from ws (suc j) k) ++ rules.edit_line i (reply_listed ws i)) (let e : suc j + k ≡ j + suc k = omega arith in e))
+    ∙ sym (append_assoc (rules.edit_line j (reply_listed ws j)) (rules.edit_lines (suc j) (replies_from ws (suc j) k)) (rules.edit_line (j + suc k) (reply_listed ws (j + suc k))))
 
-      cut : rules.edit_lines i (replies_from ws i (n - i)) ≡ rules.edit_line i (reply_listed ws i) ++ rules.edit_lines (i + 1) (replies_from ws (i + 1) (n - (i + 1)))
-      cut = ap (λ (j : ℕ). rules.edit_lines i (replies_from ws i j)) more ∙ ap (λ (j : ℕ). rules.edit_line i (reply_listed ws i) ++ rules.edit_lines j (replies_from ws j (n - (i + 1)))) (sym (add-one i))
+pub no_lines : (ws : List ℕ) {p : Pen ℕ} → Wrote (rules.edit_lines 0 (replies_from ws 0 0)) p p
+unfolding rules.edit_lines
+no_lines ws = nothing
 
-  pub answers_end : (o o₁ : List ℕ) (a b : ℕ) → n ≤ i → write (rules.edit_lines i (replies_from ws i (n - i))) (o₁, b) ≡ write (rules.edit_lines 0 (replies_from ws 0 n)) (o, a) → Written (rules.edit_lines 0 (replies_from ws 0 n)) o a o₁ b
-  unfolding write rules.edit_lines
-  answers_end o o₁ a b h e = record { is = sym e ∙ ap (λ (j : ℕ). write (rules.edit_lines i (replies_from ws i j)) (o₁, b)) (let z : n - i ≡ 0 = omega (arith, h) in z) }
+pub answers_turn : (ws : List ℕ) (i : ℕ) {r : Reply} {p q s : Pen ℕ} → Wrote (rules.edit_lines 0 (replies_from ws 0 i)) p q → r ≡ reply_listed ws i → Wrote (rules.edit_line i r) q s → Wrote (rules.edit_lines 0 (replies_from ws 0 (i + 1))) p s
+answers_turn ws i w e v =
+    same_text
+    (sym (more_lines ws 0 i) ∙ ap (λ (j : ℕ). rules.edit_lines 0 (replies_from ws 0 j)) (sym (add-one i)))
+    (and_then w (same_text (ap (rules.edit_line i) e ∙ ap (λ (j : ℕ). rules.edit_line j (reply_listed ws j)) (let e : i ≡ 0 + i = omega arith in e)) v))
+
+-- the words of the i-th answer
+cells : (q : ℕ) (ws : List ℕ) (i j : ℕ) (d : List ℕ) → i < q → j < 3 → get_or (get_or (first_chunks 3 q ws) i d) j 0 ≡ get_or ws (3 * i + j) 0
+cells zero ws i j d h k = absurd (omega (arith, h))
+cells (suc q) ws zero j d h k = get_or-take 3 ws j 0 k ∙ ap (λ (n : ℕ). get_or ws n 0) (let e : j ≡ 3 * 0 + j = omega arith in e)
+cells (suc q) ws (suc i) j d h k = cells q (drop 3 ws) i j d (omega (arith, h)) k ∙ get_or-drop 3 ws (3 * i + j) 0 ∙ ap (λ (n : ℕ). get_or ws n 0) (let e : 3 + (3 * i + j) ≡ 3 * suc i + j = omega arith in e)
+
+pub in_front : {X : Type 0} (n : ℕ) (xs : List X) (i : ℕ) (d : X) → i < length (take n xs) → (get_or (take n xs) i d ≡ get_or xs i d) × (i < length xs)
+in_front zero xs i d h = absurd (omega (arith, h))
+in_front (suc n) [] i d h = absurd (omega (arith, h))
+in_front (suc n) (x ∷ xs) zero d h = (refl, omega arith)
+in_front (suc n) (x ∷ xs) (suc i) d h = let e = in_front n xs i d (omega (arith, h)) in (e.0, omega (arith, e.1))
+
+pub reply_is : (ws : List ℕ) {cs : List (List ℕ)} (n i : ℕ) (d : List ℕ) → cs ≡ first_chunks 3 (length ws / 3) ws → length cs ≡ length ws / 3 → i < length (take n cs)
+    → ◌≡◌ {A = Reply} (record { refusal = get_or (get_or (take n cs) i d) 0 0; a = get_or (get_or (take n cs) i d) 1 0; b = get_or (get_or (take n cs) i d) 2 0 }) (reply_listed ws i)
+reply_is ws {cs} n i d e f h = triple (cell 0 (omega arith) ∙ ap (λ (k : ℕ). get_or ws k 0) (let z : 3 * i + 0 ≡ 3 * i = omega arith in z)) (cell 1 (omega arith)) (cell 2 (omega arith))
+  where
+    inside : (get_or (take n cs) i d ≡ get_or cs i d) × (i < length cs)
+    inside = in_front n cs i d h
+
+    cell : (j : ℕ) → j < 3 → get_or (get_or (take n cs) i d) j 0 ≡ get_or ws (3 * i + j) 0
+    cell j k =
+        ap (λ (xs : List ℕ). get_or xs j 0) (inside.0 ∙ ap (λ (xs : List (List ℕ)). get_or xs i d) e)
+        ∙ cells (length ws / 3) ws i j d (omega (arith, inside.1, f)) k
+
+    reply : ℕ → ℕ → ℕ → Reply
+    reply x y z = record { refusal = x; a = y; b = z }
+
+    triple : {x y z x' y' z' : ℕ} → x ≡ x' → y ≡ y' → z ≡ z' → ◌≡◌ {A = Reply} (record { refusal = x; a = y; b = z }) (record { refusal = x'; a = y'; b = z' })
+    triple {x} {y} {z} {x'} {y'} {z'} p q r =
+        ap (λ (t : ℕ). reply t y z) p ∙ ap (λ (t : ℕ). reply x' t z) q ∙ ap (reply x' y') r
 
 -- a word and a number, which is known
-pub field_is : (w : List ℕ) {x n : ℕ} {o o₁ : List ℕ} {a b : ℕ} → x ≡ n → Written (w ++ rules.num x) o a o₁ b → Written (w ++ rules.num n) o a o₁ b
+pub field_is : (w : List ℕ) {x n : ℕ} {q q₁ : Pen ℕ} → x ≡ n → Wrote (w ++ rules.num x) q q₁ → Wrote (w ++ rules.num n) q q₁
 field_is w e v = same_text (ap (λ (n : ℕ). w ++ rules.num n) e) v
-
--- a node by the code of its kind
-module _ (l : Layout) (m : List ℕ) (f q p : ℕ) (k : kind_of q ≡ node_in (fam_of f)) where
-  pub node_live : Live (state_of l m) (node_in (fam_of f), p) → Live (state_of l m) (kind_of q, p)
-  node_live h = subst (λ (t : Kind). Live (state_of l m) (t, p)) (sym k) h
-
-  pub node_is : {o o₁ : List ℕ} {a b : ℕ} → Written (node_text (abs l m) (fam_of f) (num (state_of l m) (kind_of q, p))) o a o₁ b → Written (node_text (abs l m) (fam_of f) (num (state_of l m) (node_in (fam_of f), p))) o a o₁ b
-  node_is w = same_text (ap (λ (t : Kind). node_text (abs l m) (fam_of f) (num (state_of l m) (t, p))) k) w
-
-pub begun : (ws : List ℕ) (n : ℕ) (o : List ℕ) (a : ℕ) → write (rules.edit_lines 0 (replies_from ws 0 (n - 0))) (o, a) ≡ write (rules.edit_lines 0 (replies_from ws 0 n)) (o, a)
-begun ws n o a = ap (λ (j : ℕ). write (rules.edit_lines 0 (replies_from ws 0 j)) (o, a)) (let e : n - 0 ≡ n = omega arith in e)
-
-pub fourth : (q : ℕ) → q < 4 → (q ≡ 0 → ⊥) → (q ≡ 1 → ⊥) → (q ≡ 2 → ⊥) → kind_of q ≡ val
-fourth q h a b c = ap kind_of (let e : q ≡ 3 = omega arith in e)

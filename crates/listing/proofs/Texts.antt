@@ -22,11 +22,12 @@ use Rattle.context.specs.Memory.{con, state_of, SoundStore}
 use Rattle.context.specs.Reading.{list_of}
 use Rattle.context.specs.Performed.{abs}
 use Rattle.context.proofs.Places.{place<}
-use Rattle.listing.specs.Writer.{Written}
+use Rattle.listing.specs.declared.Pen.{Pen}
+use Rattle.listing.specs.Writer.{Wrote}
 use Rattle.listing.specs.Lines.{node_text, row_text, numbers_among, home_number, definition_at, uses_among, lines}
 use Rattle.listing.proofs.Rows.{operands_at, successors_at, results_at, arguments_at, value_uses_at, block_uses_at}
 use Rattle.listing.proofs.Uses.{uses_are}
-use Rattle.listing.proofs.Writing.{and_then, then_as, ends, same_text}
+use Rattle.listing.proofs.Pens.{Pieces, and_then, then_as, ends, same_text}
 
 -- ---- lists
 
@@ -75,16 +76,16 @@ module _ {l : Layout} {m : List ℕ} (S : SoundStore l m) where
   -- ---- lines
 
   module _ (p : ℕ) where
-    pub op_line : {o₀ o₁ o₂ o₃ o₄ o₅ o₆ o₇ o₈ : List ℕ} {a₀ a₁ a₂ a₃ a₄ a₅ a₆ a₇ a₈ : ℕ} → Live P (op, p)
-        → Written (rules.text "op" ++ rules.num (num P (op, p))) o₀ a₀ o₁ a₁
-        → Written (rules.text " block" ++ rules.or_none (home_number P (op, p) ops_in)) o₁ a₁ o₂ a₂
-        → Written (rules.text " flags" ++ rules.num (P.tag (op, p))) o₂ a₂ o₃ a₃
-        → Written (rules.text " res" ++ row_text s vals (numbers_among l m vals p)) o₃ a₃ o₄ a₄
-        → Written (rules.text " opd" ++ row_text s slots (numbers_among l m slots (2 * p))) o₄ a₄ o₅ a₅
-        → Written (rules.text " suc" ++ row_text s slots (numbers_among l m slots (2 * p + 1))) o₅ a₅ o₆ a₆
-        → Written (rules.text " reg" ++ row_text s regs (numbers_among l m regs p)) o₆ a₆ o₇ a₇
-        → Written (10 ∷ []) o₇ a₇ o₈ a₈
-        → Written (lines s P op (p ∷ [])) o₀ a₀ o₈ a₈
+    pub op_line : {q₀ q₁ q₂ q₃ q₄ q₅ q₆ q₇ q₈ : Pen ℕ} → Live P (op, p)
+        → Wrote (rules.text "op" ++ rules.num (num P (op, p))) q₀ q₁
+        → Wrote (rules.text " block" ++ rules.or_none (home_number P (op, p) ops_in)) q₁ q₂
+        → Wrote (rules.text " flags" ++ rules.num (P.tag (op, p))) q₂ q₃
+        → Wrote (rules.text " res" ++ row_text s vals (numbers_among l m vals p)) q₃ q₄
+        → Wrote (rules.text " opd" ++ row_text s slots (numbers_among l m slots (2 * p))) q₄ q₅
+        → Wrote (rules.text " suc" ++ row_text s slots (numbers_among l m slots (2 * p + 1))) q₅ q₆
+        → Wrote (rules.text " reg" ++ row_text s regs (numbers_among l m regs p)) q₆ q₇
+        → Wrote (10 ∷ []) q₇ q₈
+        → Wrote (lines s P op (p ∷ [])) q₀ q₈
     unfolding rules.op_lines rules.line_end rec_of rows_of
     op_line h w₁ w₂ w₃ w₄ w₅ w₆ w₇ w₈ =
         ends
@@ -96,14 +97,14 @@ module _ {l : Layout} {m : List ℕ} (S : SoundStore l m) where
         (then_as (rules.text " flags") (ap rules.num (flags_are p h))
         (then_as (rules.text " block") refl w₁ w₂) w₃) w₄) w₅) w₆) w₇) w₈)
 
-    pub block_line : {o₀ o₁ o₂ o₃ o₄ o₅ o₆ : List ℕ} {a₀ a₁ a₂ a₃ a₄ a₅ a₆ : ℕ} → Live P (blk, p)
-        → Written (rules.text "block" ++ rules.num (num P (blk, p))) o₀ a₀ o₁ a₁
-        → Written (rules.text " region" ++ rules.or_none (home_number P (blk, p) blocks_in)) o₁ a₁ o₂ a₂
-        → Written (rules.text " arg" ++ row_text s vals (numbers_among l m vals (l.ops + p))) o₂ a₂ o₃ a₃
-        → Written (rules.text " ops" ++ row_text s ops_in (numbers_among l m ops_in p)) o₃ a₃ o₄ a₄
-        → Written (rules.text " pred" ++ rules.nums (uses_among P (definition_at l m (l.values + p)) (P.tab usg).order)) o₄ a₄ o₅ a₅
-        → Written (10 ∷ []) o₅ a₅ o₆ a₆
-        → Written (lines s P blk (p ∷ [])) o₀ a₀ o₆ a₆
+    pub block_line : {q₀ q₁ q₂ q₃ q₄ q₅ q₆ : Pen ℕ} → Live P (blk, p)
+        → Wrote (rules.text "block" ++ rules.num (num P (blk, p))) q₀ q₁
+        → Wrote (rules.text " region" ++ rules.or_none (home_number P (blk, p) blocks_in)) q₁ q₂
+        → Wrote (rules.text " arg" ++ row_text s vals (numbers_among l m vals (l.ops + p))) q₂ q₃
+        → Wrote (rules.text " ops" ++ row_text s ops_in (numbers_among l m ops_in p)) q₃ q₄
+        → Wrote (rules.text " pred" ++ rules.nums (uses_among P (definition_at l m (l.values + p)) (P.tab usg).order)) q₄ q₅
+        → Wrote (10 ∷ []) q₅ q₆
+        → Wrote (lines s P blk (p ∷ [])) q₀ q₆
     unfolding rules.block_lines rules.line_end rec_of rows_of
     block_line h w₁ w₂ w₃ w₄ w₅ w₆ =
         ends
@@ -113,12 +114,12 @@ module _ {l : Layout} {m : List ℕ} (S : SoundStore l m) where
         (then_as (rules.text " arg") (in_list vals (l.ops + p) (blk, p) arguments (arguments_at l p) (λ n. refl))
         (then_as (rules.text " region") refl w₁ w₂) w₃) w₄) w₅) w₆)
 
-    pub region_line : {o₀ o₁ o₂ o₃ o₄ : List ℕ} {a₀ a₁ a₂ a₃ a₄ : ℕ} → Live P (reg, p)
-        → Written (rules.text "region" ++ rules.num (num P (reg, p))) o₀ a₀ o₁ a₁
-        → Written (rules.text " op" ++ rules.or_none (home_number P (reg, p) regs)) o₁ a₁ o₂ a₂
-        → Written (rules.text " blocks" ++ row_text s blocks_in (numbers_among l m blocks_in p)) o₂ a₂ o₃ a₃
-        → Written (10 ∷ []) o₃ a₃ o₄ a₄
-        → Written (lines s P reg (p ∷ [])) o₀ a₀ o₄ a₄
+    pub region_line : {q₀ q₁ q₂ q₃ q₄ : Pen ℕ} → Live P (reg, p)
+        → Wrote (rules.text "region" ++ rules.num (num P (reg, p))) q₀ q₁
+        → Wrote (rules.text " op" ++ rules.or_none (home_number P (reg, p) regs)) q₁ q₂
+        → Wrote (rules.text " blocks" ++ row_text s blocks_in (numbers_among l m blocks_in p)) q₂ q₃
+        → Wrote (10 ∷ []) q₃ q₄
+        → Wrote (lines s P reg (p ∷ [])) q₀ q₄
     unfolding rules.region_lines rules.line_end rec_of rows_of
     region_line h w₁ w₂ w₃ w₄ =
         ends
@@ -126,12 +127,12 @@ module _ {l : Layout} {m : List ℕ} (S : SoundStore l m) where
         (then_as (rules.text " blocks") (in_list blocks_in p (reg, p) blocks refl (λ n. refl))
         (then_as (rules.text " op") (ap rules.or_none (parent_is p h)) w₁ w₂) w₃) w₄)
 
-    pub value_line : {o₀ o₁ o₂ o₃ o₄ : List ℕ} {a₀ a₁ a₂ a₃ a₄ : ℕ} → Live P (val, p)
-        → Written (rules.text "value" ++ rules.num (num P (val, p))) o₀ a₀ o₁ a₁
-        → Written (rules.text " type" ++ rules.num (P.tag (val, p))) o₁ a₁ o₂ a₂
-        → Written (rules.text " uses" ++ rules.nums (uses_among P (definition_at l m p) (P.tab usg).order)) o₂ a₂ o₃ a₃
-        → Written (10 ∷ []) o₃ a₃ o₄ a₄
-        → Written (lines s P val (p ∷ [])) o₀ a₀ o₄ a₄
+    pub value_line : {q₀ q₁ q₂ q₃ q₄ : Pen ℕ} → Live P (val, p)
+        → Wrote (rules.text "value" ++ rules.num (num P (val, p))) q₀ q₁
+        → Wrote (rules.text " type" ++ rules.num (P.tag (val, p))) q₁ q₂
+        → Wrote (rules.text " uses" ++ rules.nums (uses_among P (definition_at l m p) (P.tab usg).order)) q₂ q₃
+        → Wrote (10 ∷ []) q₃ q₄
+        → Wrote (lines s P val (p ∷ [])) q₀ q₄
     unfolding rules.value_lines rules.line_end rec_of
     value_line h w₁ w₂ w₃ w₄ =
         ends
@@ -140,14 +141,14 @@ module _ {l : Layout} {m : List ℕ} (S : SoundStore l m) where
         (then_as (rules.text " type") refl w₁ w₂) w₃) w₄)
 
   -- the counts
-  pub store_line : {o₀ o₁ o₂ o₃ o₄ o₅ o₆ o₇ : List ℕ} {a₀ a₁ a₂ a₃ a₄ a₅ a₆ a₇ : ℕ} → Written (rules.text "store") o₀ a₀ o₁ a₁
-      → Written (rules.num (length (P.tab op).order)) o₁ a₁ o₂ a₂
-      → Written (rules.num (length (P.tab blk).order)) o₂ a₂ o₃ a₃
-      → Written (rules.num (length (P.tab reg).order)) o₃ a₃ o₄ a₄
-      → Written (rules.num (length (P.tab val).order)) o₄ a₄ o₅ a₅
-      → Written (rules.num (length (P.tab usg).order)) o₅ a₅ o₆ a₆
-      → Written (10 ∷ []) o₆ a₆ o₇ a₇
-      → Written (rules.store_line s) o₀ a₀ o₇ a₇
+  pub store_line : {q₀ q₁ q₂ q₃ q₄ q₅ q₆ q₇ : Pen ℕ} → Wrote (rules.text "store") q₀ q₁
+      → Wrote (rules.num (length (P.tab op).order)) q₁ q₂
+      → Wrote (rules.num (length (P.tab blk).order)) q₂ q₃
+      → Wrote (rules.num (length (P.tab reg).order)) q₃ q₄
+      → Wrote (rules.num (length (P.tab val).order)) q₄ q₅
+      → Wrote (rules.num (length (P.tab usg).order)) q₅ q₆
+      → Wrote (10 ∷ []) q₆ q₇
+      → Wrote (rules.store_line s) q₀ q₇
   unfolding rules.store_line rules.line_end abs meaning rule_state hist orders_of
   store_line w₀ w₁ w₂ w₃ w₄ w₅ w₆ =
       and_then
@@ -163,12 +164,12 @@ module _ {l : Layout} {m : List ℕ} (S : SoundStore l m) where
       w₆
 
   -- the whole
-  pub listing_is : {o₀ o₁ o₂ o₃ o₄ o₅ : List ℕ} {a₀ a₁ a₂ a₃ a₄ a₅ : ℕ} → Written (rules.store_line s) o₀ a₀ o₁ a₁
-      → Written (lines s P op (P.tab op).order) o₁ a₁ o₂ a₂
-      → Written (lines s P blk (P.tab blk).order) o₂ a₂ o₃ a₃
-      → Written (lines s P reg (P.tab reg).order) o₃ a₃ o₄ a₄
-      → Written (lines s P val (P.tab val).order) o₄ a₄ o₅ a₅
-      → Written (rules.listing s) o₀ a₀ o₅ a₅
+  pub listing_is : {q₀ q₁ q₂ q₃ q₄ q₅ : Pen ℕ} → Wrote (rules.store_line s) q₀ q₁
+      → Wrote (lines s P op (P.tab op).order) q₁ q₂
+      → Wrote (lines s P blk (P.tab blk).order) q₂ q₃
+      → Wrote (lines s P reg (P.tab reg).order) q₃ q₄
+      → Wrote (lines s P val (P.tab val).order) q₄ q₅
+      → Wrote (rules.listing s) q₀ q₅
   unfolding rules.listing abs meaning rule_state hist orders_of
   listing_is w₀ w₁ w₂ w₃ w₄ =
       and_then
@@ -181,10 +182,21 @@ module _ {l : Layout} {m : List ℕ} (S : SoundStore l m) where
 
 -- ---- one line after another
 
-pub lines_cons : (s : RState) (P : State) (k : Kind) (p : ℕ) (ps : List ℕ) → lines s P k (p ∷ ps) ≡ lines s P k (p ∷ []) ++ lines s P k ps
+lines_more : (s : RState) (P : State) (k : Kind) (p : ℕ) (ps : List ℕ) → lines s P k (p ∷ ps) ≡ lines s P k (p ∷ []) ++ lines s P k ps
 unfolding rules.op_lines rules.block_lines rules.region_lines rules.value_lines
-lines_cons s P op p ps = simp append_assoc
-lines_cons s P blk p ps = simp append_assoc
-lines_cons s P reg p ps = simp append_assoc
-lines_cons s P val p ps = simp append_assoc
-lines_cons s P usg p ps = refl
+lines_more s P op p ps = simp append_assoc
+lines_more s P blk p ps = simp append_assoc
+lines_more s P reg p ps = simp append_assoc
+lines_more s P val p ps = simp append_assoc
+lines_more s P usg p ps = refl
+
+lines_none : (s : RState) (P : State) (k : Kind) → lines s P k [] ≡ []
+unfolding rules.op_lines rules.block_lines rules.region_lines rules.value_lines
+lines_none s P op = refl
+lines_none s P blk = refl
+lines_none s P reg = refl
+lines_none s P val = refl
+lines_none s P usg = refl
+
+pub lines_pieces : (s : RState) (P : State) (k : Kind) → Pieces (lines s P k)
+lines_pieces s P k = record { none = lines_none s P k; more = lines_more s P k }

@@ -1,6 +1,8 @@
 -- The texts of the functions, of a store by places: its lists, its things, and what the rules' listing has for them.
 -- Assumes nothing: these are definitions.
 use Rattle.std.specs.Prelude.{◌≡◌, List, [], ◌∷◌, ◌++◌, map, ℕ, zero, suc, ◌+◌, ◌*◌, get_or}
+use Rattle.std.specs.Prelude as Rust
+use Rattle.std.specs.Prelude.{Some, None}
 use Rattle.std.proofs.Math.Option.{Option}
 use Rattle.places.specs.Store.{Kind, op, blk, reg, val, usg, blocks, Fam, slots, use_sets, vals, regs, ops_in, blocks_in, Thing, State}
 use Rattle.places.specs.View.{num, home_by, rec_of}
@@ -53,6 +55,11 @@ use_entry P u = (num P (usg, u), use_of (rec_of P (usg, u)))
 -- the uses of d among those at the places us
 abbrev pub uses_among : State → Definition → List ℕ → List ℕ
 uses_among P d us = keys_where (same_definition d) (map (use_entry P) us)
+
+-- what Rust's option says
+abbrev pub listed : Rust.Option ℕ → List ℕ
+listed None = []
+listed (Some x) = x ∷ []
 
 -- the lines of the things of the kind k at the places ps
 abbrev pub lines : RState → State → Kind → List ℕ → List ℕ

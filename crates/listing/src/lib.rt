@@ -9,73 +9,83 @@ ghost use Rattle.places.specs.Parts.{node_in};
 ghost use Rattle.rules.specs.Table.{find};
 ghost use Rattle.rules.specs.Step.{definition_number};
 ghost use Rattle.rules.specs.Listing as rules;
-ghost use Rattle.context.specs.Layout.{kind_of, fam_of, nc_of};
+ghost use Rattle.context.specs.Kinds.{kind_of, fam_of};
+ghost use Rattle.context.specs.Nest.{inner_fam};
+ghost use Rattle.context.specs.Layout.{nc_of};
 ghost use Rattle.context.specs.Memory.{con, state_of, SoundStore};
 ghost use Rattle.context.specs.Performed.{abs};
-ghost use Rattle.listing.specs.Writer.{Written};
-ghost use Rattle.listing.specs.Lines.{node_text, row_text, numbers_among, home_number, Holders, definition_at, uses_among, lines, replies_from};
+ghost use Rattle.listing.specs.Writer.{Written, Wrote};
+ghost use Rattle.listing.specs.Lines.{node_text, row_text, numbers_among, home_number, definition_at, uses_among, listed, lines, replies_from};
 
-use context::Layout;
+use context::{Family, Kind, Layout};
+use edit::Nested;
 
-// One byte.
-fn put_byte(b: u8, out: &mut [u8], at: usize) -> usize
-    ensures { Written (b ∷ []) out.old at out.new result }
-{
-    if at < out.len() {
-        out[at] = b;
-        return at + 1;
+// A lent buffer, and where what is written next is put.
+#[derive(Drop)]
+pub struct Pen<'a, T> {
+    pub out: &'a mut [T],
+    pub at: usize,
+}
+
+impl<'a, T: Copy> Pen<'a, T> {
+    // One element.
+    pub fn put(&mut self, x: T)
+        ensures { Wrote (x ∷ []) self.old self.new }
+    {
+        if self.at < self.out.len() {
+            self.out[self.at] = x;
+            self.at += 1;
+        }
     }
-    at
+}
+
+impl<'a> Pen<'a, u8> {
+    fn text(&mut self, t: &[u8])
+        ensures { Wrote t.now self.old self.new }
+    {
+        for b in t {
+            self.put(*b);
+        }
+    }
+
+    // The last `k` decimal digits of `n`, or all where there are fewer.
+    // Kept (point 4): `write!` asks for a writer that may fail and gives a result to throw away; this cannot fail.
+    fn digits(&mut self, n: u32, k: usize)
+        ensures { Wrote (rules.digits k n []) self.old self.new }
+    {
+        if k == 0 {
+            return;
+        }
+        if n >= 10 {
+            self.digits(n / 10, k - 1);
+        }
+        self.put(b'0' + (n % 10) as u8);
+    }
+
+    // A space and a number.
+    fn number(&mut self, n: u32)
+        ensures { Wrote (rules.num n) self.old self.new }
+    {
+        self.put(b' ');
+        self.digits(n, 10);
+    }
+
+    // A word, a space and a number.
+    fn field(&mut self, word: &[u8], n: u32)
+        ensures { Wrote (word.now ++ rules.num n) self.old self.new }
+    {
+        self.text(word);
+        self.number(n);
+    }
 }
 
 // A text.
 pub fn put_text(t: &[u8], out: &mut [u8], at: usize) -> usize
     ensures { Written t.now out.old at out.new result }
 {
-    let mut i = 0;
-    let mut a = at;
-    while i < t.len() {
-        a = put_byte(t[i], out, a);
-        i += 1;
-    }
-    a
-}
-
-fn digit(n: u32) -> u8
-    requires { n < 10 }
-    ensures { result ≡ 48 + n }
-{
-    (48 + n) as u8
-}
-
-// The last `k` decimal digits of `n`, or all where there are fewer.
-fn put_digits(n: u32, k: usize, out: &mut [u8], at: usize) -> usize
-    ensures { Written (rules.digits k n []) out.old at out.new result }
-{
-    if k == 0 {
-        return at;
-    }
-    if n < 10 {
-        return put_byte(digit(n), out, at);
-    }
-    let a = put_digits(n / 10, k - 1, out, at);
-    put_byte(digit(n % 10), out, a)
-}
-
-// A space and a number.
-fn put_number(n: u32, out: &mut [u8], at: usize) -> usize
-    ensures { Written (rules.num n) out.old at out.new result }
-{
-    let a = put_byte(b' ', out, at);
-    put_digits(n, 10, out, a)
-}
-
-// A word, a space and a number.
-fn put_field(word: &[u8], n: u32, out: &mut [u8], at: usize) -> usize
-    ensures { Written (word.now ++ rules.num n) out.old at out.new result }
-{
-    let a = put_text(word, out, at);
-    put_number(n, out, a)
+    let mut pen = Pen { out, at };
+    pen.text(t);
+    pen.at
 }
 
 // The number of the definition of the use at the place `u`.
@@ -84,237 +94,197 @@ fn definition_of(m: &[u32], l: Layout, u: usize) -> u32
     requires live { Live (state_of l m.now) (usg, u) }
     ensures { result ≡ definition_number (find (abs l m.now).history.uses (num (state_of l m.now) (usg, u))) }
 {
-    let h = context::home_of(m, l, 1, u);
-    let d = h - 1;
-    let v = l.values;
-    if d < v {
-        return context::number_of(m, l, 3, d);
+    let d = context::home_of(m, l, Family::UseSets, u).unwrap();
+    if d < l.values {
+        context::number_of(m, l, Kind::Value, d)
+    } else {
+        context::number_of(m, l, Kind::Block, d - l.values)
     }
-    context::number_of(m, l, 1, d - v)
 }
 
-// The thing of the kind `q` at the place `p`, as it stands in a list of the family `f`: a use in an operation's list has its definition behind it.
-fn put_node(m: &[u32], l: Layout, f: usize, q: usize, p: usize, out: &mut [u8], at: usize) -> usize
-    requires sound_store { SoundStore l m.now }
-    requires q_value { kind_of q ≡ node_in (fam_of f) }
-    requires live { Live (state_of l m.now) (kind_of q, p) }
-    ensures { Written (node_text (abs l m.now) (fam_of f) (num (state_of l m.now) (kind_of q, p))) out.old at out.new result }
+// What stands in the lists of a family.
+fn node_kind(f: Family) -> Kind
+    ensures { kind_of result ≡ node_in (fam_of f) }
 {
-    let x = context::number_of(m, l, q, p);
-    let a = put_number(x, out, at);
-    if f != 0 {
-        return a;
+    match f {
+        Family::Slots | Family::UseSets => Kind::Use,
+        Family::Values => Kind::Value,
+        Family::Regions => Kind::Region,
+        Family::Operations => Kind::Operation,
+        Family::Blocks => Kind::Block,
     }
-    let b = put_byte(b':', out, a);
-    let d = definition_of(m, l, p);
-    put_digits(d, 10, out, b)
 }
 
-// A word, and the numbers in the list `k` of the family `f`, whose nodes are of the kind `q`.
-fn put_row(
-    m: &[u32],
-    l: Layout,
-    word: &[u8],
-    f: usize,
-    q: usize,
-    k: usize,
-    out: &mut [u8],
-    at: usize,
-) -> usize
+// The thing at the place `p`, as it stands in a list of the family `f`: a use in an operation's list has its definition behind it.
+fn put_node(m: &[u32], l: Layout, f: Family, p: usize, pen: &mut Pen<u8>)
     requires sound_store { SoundStore l m.now }
-    requires q_value { kind_of q ≡ node_in (fam_of f) }
-    requires k_bound { k < nc_of l (fam_of f) }
-    ensures { Written (word.now ++ row_text (abs l m.now) (fam_of f) (numbers_among l m.now (fam_of f) k)) out.old at out.new result }
-{
-    let mut a = put_text(word, out, at);
-    let n = context::row_length(m, l, f, k);
-    let mut c = context::first_of(m, l, f, k);
-    let mut i = 0;
-    while i < n {
-        let p = c - 1;
-        a = put_node(m, l, f, q, p, out, a);
-        c = context::next_of(m, l, f, p);
-        i += 1;
-    }
-    a
-}
-
-// A word, and the number of what the thing at the place `p` stands in, of the family `f`, whose containers are of the kind `q`; - for none.
-fn put_home(
-    m: &[u32],
-    l: Layout,
-    word: &[u8],
-    f: usize,
-    q: usize,
-    p: usize,
-    out: &mut [u8],
-    at: usize,
-) -> usize
-    requires sound_store { SoundStore l m.now }
-    requires holders { Holders l (fam_of f) (kind_of q) }
     requires live { Live (state_of l m.now) (node_in (fam_of f), p) }
-    ensures { Written (word.now ++ rules.or_none (home_number (state_of l m.now) (node_in (fam_of f), p) (fam_of f))) out.old at out.new result }
+    ensures { Wrote (node_text (abs l m.now) (fam_of f) (num (state_of l m.now) (node_in (fam_of f), p))) pen.old pen.new }
 {
-    let h = context::home_of(m, l, f, p);
-    let a = put_text(word, out, at);
-    if h == 0 {
-        return put_text(b" -", out, a);
+    pen.number(context::number_of(m, l, node_kind(f), p));
+    if let Family::Slots = f {
+        pen.put(b':');
+        pen.digits(definition_of(m, l, p), 10);
     }
-    let x = context::number_of(m, l, q, h - 1);
-    put_number(x, out, a)
 }
 
-// The `i`-th live use, where the set `k` of uses has it.
-fn put_use(m: &[u32], l: Layout, k: usize, i: usize, out: &mut [u8], at: usize) -> usize
+// A word, and the numbers in the list `k` of the family `f`.
+fn put_row(m: &[u32], l: Layout, word: &[u8], f: Family, k: usize, pen: &mut Pen<u8>)
+    requires sound_store { SoundStore l m.now }
+    requires k_bound { k < nc_of l (fam_of f) }
+    ensures { Wrote (word.now ++ row_text (abs l m.now) (fam_of f) (numbers_among l m.now (fam_of f) k)) pen.old pen.new }
+{
+    pen.text(word);
+    let mut next = context::first_of(m, l, f, k);
+    while let Some(p) = next {
+        put_node(m, l, f, p, pen);
+        next = context::next_of(m, l, f, p);
+    }
+}
+
+// A word, and the number of the thing that the thing at the place `p` stands in, of the kind `holder`; - for none.
+fn put_home(m: &[u32], l: Layout, word: &[u8], holder: Nested, p: usize, pen: &mut Pen<u8>)
+    requires sound_store { SoundStore l m.now }
+    requires live { Live (state_of l m.now) (node_in (inner_fam holder), p) }
+    ensures { Wrote (word.now ++ rules.or_none (home_number (state_of l m.now) (node_in (inner_fam holder), p) (inner_fam holder))) pen.old pen.new }
+{
+    pen.text(word);
+    match context::home_of(m, l, Family::from(holder), p) {
+        Some(h) => pen.number(context::number_of(m, l, Kind::from(holder), h)),
+        None => pen.text(b" -"),
+    }
+}
+
+// The number of the `i`-th live use, where the set `k` of uses has it.
+pub fn nth_use(m: &[u32], l: Layout, k: usize, i: usize) -> Option<u32>
     requires sound_store { SoundStore l m.now }
     requires k_bound { k < nc_of l use_sets }
     requires live { Live (state_of l m.now) (con l use_sets k).1 }
     requires i_in_bounds { i < length ((state_of l m.now).tab usg).order }
-    ensures { Written (rules.nums (uses_among (state_of l m.now) (definition_at l m.now k) (get_or ((state_of l m.now).tab usg).order i 0 ∷ []))) out.old at out.new result }
+    ensures { listed result ≡ uses_among (state_of l m.now) (definition_at l m.now k) (get_or ((state_of l m.now).tab usg).order i 0 ∷ []) }
 {
-    let u = context::nth_live(m, l, 4, i);
-    let h = context::home_of(m, l, 1, u);
-    if h != k + 1 {
-        return at;
+    let u = context::nth_live(m, l, Kind::Use, i);
+    if context::home_of(m, l, Family::UseSets, u) == Some(k) {
+        Some(context::number_of(m, l, Kind::Use, u))
+    } else {
+        None
     }
-    let x = context::number_of(m, l, 4, u);
-    put_number(x, out, at)
 }
 
 // A word, and the uses in the set `k`, in rising number.
-fn put_uses(m: &[u32], l: Layout, word: &[u8], k: usize, out: &mut [u8], at: usize) -> usize
+fn put_uses(m: &[u32], l: Layout, word: &[u8], k: usize, pen: &mut Pen<u8>)
     requires sound_store { SoundStore l m.now }
     requires k_bound { k < nc_of l use_sets }
     requires live { Live (state_of l m.now) (con l use_sets k).1 }
-    ensures { Written (word.now ++ rules.nums (uses_among (state_of l m.now) (definition_at l m.now k) ((state_of l m.now).tab usg).order)) out.old at out.new result }
+    ensures { Wrote (word.now ++ rules.nums (uses_among (state_of l m.now) (definition_at l m.now k) ((state_of l m.now).tab usg).order)) pen.old pen.new }
 {
-    let mut a = put_text(word, out, at);
-    let n = context::live_count(m, l, 4);
-    let mut i = 0;
-    while i < n {
-        a = put_use(m, l, k, i, out, a);
-        i += 1;
+    pen.text(word);
+    for i in 0..context::live_count(m, l, Kind::Use) {
+        if let Some(x) = nth_use(m, l, k, i) {
+            pen.number(x);
+        }
     }
-    a
 }
 
 // The line of the operation at the place `p`.
-fn put_op(m: &[u32], l: Layout, p: usize, out: &mut [u8], at: usize) -> usize
+fn put_op(m: &[u32], l: Layout, p: usize, pen: &mut Pen<u8>)
     requires sound_store { SoundStore l m.now }
     requires live { Live (state_of l m.now) (op, p) }
-    ensures { Written (lines (abs l m.now) (state_of l m.now) op (p ∷ [])) out.old at out.new result }
+    ensures { Wrote (lines (abs l m.now) (state_of l m.now) op (p ∷ [])) pen.old pen.new }
 {
-    let n = context::number_of(m, l, 0, p);
-    let a = put_field(b"op", n, out, at);
-    let b = put_home(m, l, b" block", 4, 1, p, out, a);
-    let f = context::operation::flags_of(m, l, p);
-    let c = put_field(b" flags", f, out, b);
-    let d = put_row(m, l, b" res", 2, 3, p, out, c);
-    let e = put_row(m, l, b" opd", 0, 4, 2 * p, out, d);
-    let g = put_row(m, l, b" suc", 0, 4, 2 * p + 1, out, e);
-    let h = put_row(m, l, b" reg", 3, 2, p, out, g);
-    put_byte(b'\n', out, h)
+    pen.field(b"op", context::number_of(m, l, Kind::Operation, p));
+    put_home(m, l, b" block", Nested::Block, p, pen);
+    pen.field(b" flags", context::operation::flags_of(m, l, p));
+    put_row(m, l, b" res", Family::Values, p, pen);
+    put_row(m, l, b" opd", Family::Slots, 2 * p, pen);
+    put_row(m, l, b" suc", Family::Slots, 2 * p + 1, pen);
+    put_row(m, l, b" reg", Family::Regions, p, pen);
+    pen.put(b'\n');
 }
 
 // The line of the block at the place `p`.
-fn put_block(m: &[u32], l: Layout, p: usize, out: &mut [u8], at: usize) -> usize
+fn put_block(m: &[u32], l: Layout, p: usize, pen: &mut Pen<u8>)
     requires sound_store { SoundStore l m.now }
     requires live { Live (state_of l m.now) (blk, p) }
-    ensures { Written (lines (abs l m.now) (state_of l m.now) blk (p ∷ [])) out.old at out.new result }
+    ensures { Wrote (lines (abs l m.now) (state_of l m.now) blk (p ∷ [])) pen.old pen.new }
 {
-    let n = context::number_of(m, l, 1, p);
-    let a = put_field(b"block", n, out, at);
-    let b = put_home(m, l, b" region", 5, 2, p, out, a);
-    let c = put_row(m, l, b" arg", 2, 3, l.ops + p, out, b);
-    let d = put_row(m, l, b" ops", 4, 0, p, out, c);
-    let e = put_uses(m, l, b" pred", l.values + p, out, d);
-    put_byte(b'\n', out, e)
+    pen.field(b"block", context::number_of(m, l, Kind::Block, p));
+    put_home(m, l, b" region", Nested::Region, p, pen);
+    put_row(m, l, b" arg", Family::Values, l.ops + p, pen);
+    put_row(m, l, b" ops", Family::Operations, p, pen);
+    put_uses(m, l, b" pred", l.values + p, pen);
+    pen.put(b'\n');
 }
 
 // The line of the region at the place `p`.
-fn put_region(m: &[u32], l: Layout, p: usize, out: &mut [u8], at: usize) -> usize
+fn put_region(m: &[u32], l: Layout, p: usize, pen: &mut Pen<u8>)
     requires sound_store { SoundStore l m.now }
     requires live { Live (state_of l m.now) (reg, p) }
-    ensures { Written (lines (abs l m.now) (state_of l m.now) reg (p ∷ [])) out.old at out.new result }
+    ensures { Wrote (lines (abs l m.now) (state_of l m.now) reg (p ∷ [])) pen.old pen.new }
 {
-    let n = context::number_of(m, l, 2, p);
-    let a = put_field(b"region", n, out, at);
-    let b = put_home(m, l, b" op", 3, 0, p, out, a);
-    let c = put_row(m, l, b" blocks", 5, 1, p, out, b);
-    put_byte(b'\n', out, c)
+    pen.field(b"region", context::number_of(m, l, Kind::Region, p));
+    put_home(m, l, b" op", Nested::Operation, p, pen);
+    put_row(m, l, b" blocks", Family::Blocks, p, pen);
+    pen.put(b'\n');
 }
 
 // The line of the value at the place `p`.
-fn put_value(m: &[u32], l: Layout, p: usize, out: &mut [u8], at: usize) -> usize
+fn put_value(m: &[u32], l: Layout, p: usize, pen: &mut Pen<u8>)
     requires sound_store { SoundStore l m.now }
     requires live { Live (state_of l m.now) (val, p) }
-    ensures { Written (lines (abs l m.now) (state_of l m.now) val (p ∷ [])) out.old at out.new result }
+    ensures { Wrote (lines (abs l m.now) (state_of l m.now) val (p ∷ [])) pen.old pen.new }
 {
-    let n = context::number_of(m, l, 3, p);
-    let a = put_field(b"value", n, out, at);
-    let t = context::value::type_of(m, l, p);
-    let b = put_field(b" type", t, out, a);
-    let c = put_uses(m, l, b" uses", p, out, b);
-    put_byte(b'\n', out, c)
+    pen.field(b"value", context::number_of(m, l, Kind::Value, p));
+    pen.field(b" type", context::value::type_of(m, l, p));
+    put_uses(m, l, b" uses", p, pen);
+    pen.put(b'\n');
 }
 
-// The line of the operation, block, region or value at the place `p`.
-fn put_thing(m: &[u32], l: Layout, q: usize, p: usize, out: &mut [u8], at: usize) -> usize
+// The line of the thing at the place `p`; a use has none.
+fn put_thing(m: &[u32], l: Layout, k: Kind, p: usize, pen: &mut Pen<u8>)
     requires sound_store { SoundStore l m.now }
-    requires q_bound { q < 4 }
-    requires live { Live (state_of l m.now) (kind_of q, p) }
-    ensures { Written (lines (abs l m.now) (state_of l m.now) (kind_of q) (p ∷ [])) out.old at out.new result }
+    requires live { Live (state_of l m.now) (kind_of k, p) }
+    ensures { Wrote (lines (abs l m.now) (state_of l m.now) (kind_of k) (p ∷ [])) pen.old pen.new }
 {
-    if q == 0 {
-        return put_op(m, l, p, out, at);
+    match k {
+        Kind::Operation => put_op(m, l, p, pen),
+        Kind::Block => put_block(m, l, p, pen),
+        Kind::Region => put_region(m, l, p, pen),
+        Kind::Value => put_value(m, l, p, pen),
+        Kind::Use => {}
     }
-    if q == 1 {
-        return put_block(m, l, p, out, at);
-    }
-    if q == 2 {
-        return put_region(m, l, p, out, at);
-    }
-    put_value(m, l, p, out, at)
 }
 
-// The lines of all operations, blocks, regions or values, in rising number.
-fn put_things(m: &[u32], l: Layout, q: usize, out: &mut [u8], at: usize) -> usize
-    requires sound_store { SoundStore l m.now }
-    requires q_bound { q < 4 }
-    ensures { Written (lines (abs l m.now) (state_of l m.now) (kind_of q) ((state_of l m.now).tab (kind_of q)).order) out.old at out.new result }
-{
-    let mut a = at;
-    let n = context::live_count(m, l, q);
-    let mut i = 0;
-    while i < n {
-        let p = context::nth_live(m, l, q, i);
-        a = put_thing(m, l, q, p, out, a);
-        i += 1;
-    }
-    a
-}
-
-// How many things of the kind `q` live, behind a space.
-fn put_count(m: &[u32], l: Layout, q: usize, out: &mut [u8], at: usize) -> usize
+// The lines of all things of a kind, in rising number.
+fn put_things(m: &[u32], l: Layout, k: Kind, pen: &mut Pen<u8>)
     requires { SoundStore l m.now }
-    ensures { Written (rules.num (length ((state_of l m.now).tab (kind_of q)).order)) out.old at out.new result }
+    ensures { Wrote (lines (abs l m.now) (state_of l m.now) (kind_of k) ((state_of l m.now).tab (kind_of k)).order) pen.old pen.new }
 {
-    let n = context::live_count(m, l, q);
-    put_number(n as u32, out, at)
+    for i in 0..context::live_count(m, l, k) {
+        put_thing(m, l, k, context::nth_live(m, l, k, i), pen);
+    }
+}
+
+// How many things of a kind live, behind a space.
+fn put_count(m: &[u32], l: Layout, k: Kind, pen: &mut Pen<u8>)
+    requires { SoundStore l m.now }
+    ensures { Wrote (rules.num (length ((state_of l m.now).tab (kind_of k)).order)) pen.old pen.new }
+{
+    pen.number(context::live_count(m, l, k) as u32);
 }
 
 // The line that counts what lives.
-fn put_store(m: &[u32], l: Layout, out: &mut [u8], at: usize) -> usize
+fn put_store(m: &[u32], l: Layout, pen: &mut Pen<u8>)
     requires { SoundStore l m.now }
-    ensures { Written (rules.store_line (abs l m.now)) out.old at out.new result }
+    ensures { Wrote (rules.store_line (abs l m.now)) pen.old pen.new }
 {
-    let a = put_text(b"store", out, at);
-    let b = put_count(m, l, 0, out, a);
-    let c = put_count(m, l, 1, out, b);
-    let d = put_count(m, l, 2, out, c);
-    let e = put_count(m, l, 3, out, d);
-    let f = put_count(m, l, 4, out, e);
-    put_byte(b'\n', out, f)
+    pen.text(b"store");
+    put_count(m, l, Kind::Operation, pen);
+    put_count(m, l, Kind::Block, pen);
+    put_count(m, l, Kind::Region, pen);
+    put_count(m, l, Kind::Value, pen);
+    put_count(m, l, Kind::Use, pen);
+    pen.put(b'\n');
 }
 
 // The listing of a sound store.
@@ -322,25 +292,28 @@ pub fn write_listing(m: &[u32], l: Layout, out: &mut [u8], at: usize) -> usize
     requires { SoundStore l m.now }
     ensures { Written (rules.listing (abs l m.now)) out.old at out.new result }
 {
-    let a = put_store(m, l, out, at);
-    let b = put_things(m, l, 0, out, a);
-    let c = put_things(m, l, 1, out, b);
-    let d = put_things(m, l, 2, out, c);
-    put_things(m, l, 3, out, d)
+    let mut pen = Pen { out, at };
+    put_store(m, l, &mut pen);
+    put_things(m, l, Kind::Operation, &mut pen);
+    put_things(m, l, Kind::Block, &mut pen);
+    put_things(m, l, Kind::Region, &mut pen);
+    put_things(m, l, Kind::Value, &mut pen);
+    pen.at
 }
 
 // The line of the record `n`, whose answer has these three numbers.
-fn put_answer(n: u32, refusal: u32, x: u32, y: u32, out: &mut [u8], at: usize) -> usize
-    ensures { Written (rules.edit_line n (record { refusal = refusal; a = x; b = y })) out.old at out.new result }
+// Kept (point 1): an answer is three words, of which the first is 0 or the refusal, as the C interface has them.
+fn put_answer(n: u32, refusal: u32, x: u32, y: u32, pen: &mut Pen<u8>)
+    ensures { Wrote (rules.edit_line n (record { refusal = refusal; a = x; b = y })) pen.old pen.new }
 {
-    let a = put_field(b"edit", n, out, at);
-    if refusal != 0 {
-        let b = put_field(b" no", refusal, out, a);
-        return put_byte(b'\n', out, b);
+    pen.field(b"edit", n);
+    if refusal == 0 {
+        pen.field(b" ok", x);
+        pen.number(y);
+    } else {
+        pen.field(b" no", refusal);
     }
-    let b = put_field(b" ok", x, out, a);
-    let c = put_number(y, out, b);
-    put_byte(b'\n', out, c)
+    pen.put(b'\n');
 }
 
 // The lines of `n` answers, three words each.
@@ -348,12 +321,9 @@ pub fn write_answers(answers: &[u32], n: usize, out: &mut [u8], at: usize) -> us
     requires { (3 * n ≤ length answers.now) × (n ≤ 4294967295) }
     ensures { Written (rules.edit_lines 0 (replies_from answers.now 0 n)) out.old at out.new result }
 {
-    let mut i = 0;
-    let mut a = at;
-    while i < n {
-        let j = 3 * i;
-        a = put_answer(i as u32, answers[j], answers[j + 1], answers[j + 2], out, a);
-        i += 1;
+    let mut pen = Pen { out, at };
+    for (i, &[refusal, x, y]) in answers.as_chunks::<3>().0[..n].iter().enumerate() {
+        put_answer(i as u32, refusal, x, y, &mut pen);
     }
-    a
+    pen.at
 }

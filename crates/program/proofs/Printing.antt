@@ -7,14 +7,18 @@ use native.Mathlib.Decide.{dec_lt}
 use native.Mathlib.Omega.{arith}
 use lib.ListN.{length, drop, length-append, length-drop}
 use borrow.Author.Tests.{lt-ltb, le-ltb}
+use Rattle.std.specs.Prelude.{Result, Ok, Err, IsOk}
 use Rattle.edit.specs.Answer.{Reply}
+use Rattle.edit.specs.Kinds.{code_of}
+use Rattle.edit.specs.declared.Refusal.{Refusal}
+use Rattle.edit.proofs.Numbers.{number_of-positive}
 use Rattle.rules.specs.State.{start}
 use Rattle.rules.specs.Script as rules-script
 use Rattle.rules.specs.Listing as rules
 use Rattle.context.specs.declared.Layout.{Layout}
 use Rattle.context.specs.Layout.{arena}
 use Rattle.context.specs.Memory.{SoundStore, layout_of}
-use Rattle.context.specs.Start.{start_code, StartIs}
+use Rattle.context.specs.Start.{start_code, StartBy}
 use Rattle.context.specs.Performed.{abs}
 use Rattle.context.proofs.Checking.{headed}
 use Rattle.script.specs.declared.Ran.{Ran}
@@ -25,11 +29,18 @@ use Rattle.listing.proofs.Writing.{and_then, same_text}
 use Rattle.program.specs.Program.{capacities, Begun}
 use Rattle.program.proofs.Replies.{read_back}
 
-pub begun : {m m' : List ℕ} {r : ℕ} → length m ≡ 9135 → StartIs capacities m m' r → Begun capacities m'
-unfolding start_code arena rules.program_capacities dec_lt
-begun {m} {m'} {r} h t =
-    let z : r ≡ 0 = t.reply ∙ ap (start_code capacities) h in
-    record { places = refl; sound = (t.started z).sound; state = t.state z }
+module _ {m m' : List ℕ} (long : length m ≡ 9135) where
+  no_refusal : {r : ℕ} → StartBy capacities m m' r → r ≡ 0
+  unfolding start_code arena dec_lt
+  no_refusal t = t.reply ∙ ap (start_code capacities) long
+
+  pub accepted : (r : Result (Unit {0}) Refusal) → StartBy capacities m m' (code_of r) → IsOk r
+  accepted (Ok _) t = refl
+  accepted (Err e) t = absurd (omega (arith, no_refusal t, number_of-positive e))
+
+  pub begun : {r : ℕ} → StartBy capacities m m' r → Begun capacities m'
+  unfolding rules.program_capacities
+  begun t = record { places = refl; sound = (t.started (no_refusal t)).sound; state = t.state (no_refusal t) }
 
 laid : (r : Reply) (rs : List Reply) → flat (r ∷ rs) ≡ r.refusal ∷ r.a ∷ r.b ∷ flat rs
 unfolding flat

@@ -20,7 +20,7 @@ fn begin(store: &mut [u32]) -> Layout
         values: 256,
         uses: 512,
     };
-    context::start(store, l);
+    context::start(store, l).unwrap();
     l
 }
 
@@ -33,8 +33,7 @@ fn run(script: &[u8], out: &mut [u8]) -> usize
     let mut scratch = [0u32; 128];
     let mut answers = [0u32; 12288];
     let ran = script::script(&mut store, &mut scratch, script, &mut answers);
-    let n = ran.count;
-    let a = listing::write_answers(&answers, n, out, 0);
+    let a = listing::write_answers(&answers, ran.count, out, 0);
     listing::write_listing(&store, l, out, a)
 }
 

@@ -2,38 +2,38 @@
 use mathlib.Core.Path.{◌≡◌, refl, sym, ap, ◌∙◌, subst}
 use mathlib.Core.Logic.{by_cases}
 use mathlib.Core.Bool.{Bool, true, false, cond}
-use mathlib.Core.List.{List, [], ◌++◌}
+use mathlib.Core.List.{List, [], ◌∷◌, ◌++◌}
 use native.Mathlib.Decide.{dec_lt}
 use native.Mathlib.Nat.{zero-add}
 use native.Mathlib.Omega.{arith}
-use Prim.Native.Nat.{ℕ, zero, suc, ◌+◌, ◌-◌, ◌≤◌, ◌<◌}
+use Prim.Native.Nat.{ℕ, ◌+◌, ◌-◌, ◌≤◌, ◌<◌}
 use lib.Dec.{eqb, leb}
 use lib.ListN.{length, drop}
 use borrow.Author.Tests.{le-leb, lt-leb}
-use Rattle.bits.specs.declared.Found.{Found}
-use Rattle.bits.specs.declared.Found.TheVariants.{At, Nothing}
-use Rattle.places.specs.Store.{Kind, blk, val, usg, block_uses, use_sets, Con, State, Live}
+use Rattle.std.specs.Prelude.{Option, Some, None, Result, Ok, Err}
+use Rattle.places.specs.Store.{blk, val, usg, block_uses, use_sets, Con, State, Live}
 use Rattle.places.specs.View.{num, view}
 use Rattle.places.specs.Hist.{def_by, hist, rule_state, meaning}
 use Rattle.places.specs.Alias.{RState}
-use Rattle.places.specs.Roles.{Unnamed}
 use Rattle.places.proofs.RuleNames as names
 use Rattle.edit.specs.Record.{Definition, of_value, of_block}
-use Rattle.rules.specs.Table.{keys_where}
+use Rattle.edit.specs.declared.Refusal.{Refusal}
+use Rattle.edit.specs.declared.Refusal.TheVariants.{NoRoom}
+use Rattle.edit.specs.Kinds.{number_of}
 use Rattle.rules.specs.History.{live_definition, uses_of}
 use Rattle.context.specs.declared.Layout.{Layout}
-use Rattle.context.specs.Memory.{con, state_of, SoundStore, LengthIs, Finds}
+use Rattle.context.specs.Memory.{con, state_of, SoundStore, LengthIs, LooksUp}
 use Rattle.context.specs.Performed.{abs}
 use Rattle.context.proofs.Families.{con_holder}
 use Rattle.context.proofs.Places.{place<}
-use Rattle.listing.specs.Writer.{Written}
-use Rattle.listing.specs.Lines.{definition_at, uses_among}
+use Rattle.listing.specs.declared.Pen.{Pen}
+use Rattle.listing.specs.Writer.{Written, Wrote}
+use Rattle.listing.specs.Lines.{definition_at, uses_among, listed}
 use Rattle.listing.proofs.Rows.{value_uses_at, block_uses_at}
 use Rattle.listing.proofs.Uses.{is_def, uses_are}
 use Rattle.listing.proofs.Writing.{whole, reached}
-use Rattle.readers.specs.declared.Uses.{Uses}
-use Rattle.readers.specs.declared.Uses.TheVariants.{Filled, Refused}
-use Rattle.readers.specs.UsesOf.{definition_by, missing, use_refusal_of, handed, Told}
+use Rattle.listing.proofs.Pens.{nothing, same_text}
+use Rattle.readers.specs.UsesOf.{missing, use_refusal_of, handed, Told}
 
 module _ (s : RState) (d : Definition) (out : List ℕ) where
   none_handed : (n : ℕ) → use_refusal_of s d (length out) ≡ n → eqb n 0 ≡ false → handed s d (length out) ≡ []
@@ -41,10 +41,10 @@ module _ (s : RState) (d : Definition) (out : List ℕ) where
   none_handed n e z = ap (λ (j : ℕ). cond {A = List ℕ} (eqb j 0) (uses_of s.history d) []) e ∙ ap (λ (b : Bool). cond {A = List ℕ} b (uses_of s.history d) []) z
 
   -- refused: the buffer is kept
-  pub refused : (n : ℕ) → use_refusal_of s d (length out) ≡ n → eqb n 0 ≡ false → Told s d out out (Refused n)
-  refused n e z =
+  pub refused : (n : ℕ) {r : Refusal} → number_of r ≡ n → use_refusal_of s d (length out) ≡ n → eqb n 0 ≡ false → Told s d out out (Err r)
+  refused n i e z =
       record {
-        refusal = sym e;
+        refusal = i ∙ sym e;
         count = ap length (sym (none_handed n e z));
         buffer = ap (λ (us : List ℕ). us ++ drop (length us) out) (sym (none_handed n e z));
       }
@@ -53,7 +53,7 @@ module _ (s : RState) (d : Definition) (out : List ℕ) where
   unfolding handed
   all_handed e = ap (λ (j : ℕ). cond {A = List ℕ} (eqb j 0) (uses_of s.history d) []) e
 
-  pub filled : {out' : List ℕ} {r : ℕ} → use_refusal_of s d (length out) ≡ 0 → length (uses_of s.history d) ≤ length out → Written (uses_of s.history d) out 0 out' r → Told s d out out' (Filled r)
+  pub filled : {out' : List ℕ} {r : ℕ} → use_refusal_of s d (length out) ≡ 0 → length (uses_of s.history d) ≤ length out → Written (uses_of s.history d) out 0 out' r → Told s d out out' (Ok r)
   filled e h w =
       record {
         refusal = sym e;
@@ -77,7 +77,7 @@ module _ (s : RState) (d : Definition) (out : List ℕ) where
   short e h = ap (λ (b : Bool). cond b (cond (leb (length (uses_of s.history d)) (length out)) 0 22) (missing d)) e ∙ ap (λ (b : Bool). cond b 0 22) (lt-leb (length (uses_of s.history d)) (length out) h)
 
 -- told of a definition, by another name of it
-pub told_as : {s : RState} {out out' : List ℕ} {r : Uses} {d e : Definition} → d ≡ e → Told s d out out' r → Told s e out out' r
+pub told_as : {s : RState} {out out' : List ℕ} {r : Result ℕ Refusal} {d e : Definition} → d ≡ e → Told s d out out' r → Told s e out out' r
 told_as {s} {out} {out'} {r} q t = subst (λ (x : Definition). Told s x out out' r) q t
 
 -- ---- a sound store
@@ -97,13 +97,13 @@ module _ {l : Layout} {m : List ℕ} (S : SoundStore l m) where
   block_at p n e = ap (λ (c : Con). def_by c.0 (num P c.1)) (block_uses_at l (l.values + p) (omega arith) ∙ ap (λ (j : ℕ). (block_uses, (blk, j))) (let z : l.values + p - l.values ≡ p = omega arith in z)) ∙ ap of_block e
 
   -- no such definition
-  pub no_value : (n : ℕ) (out : List ℕ) → Unnamed P val n → Told (abs l m) (of_value n) out out (Refused 10)
+  pub no_value : (n : ℕ) (out : List ℕ) {r : Refusal} → LooksUp P val n (Err r) → Told (abs l m) (of_value n) out out (Err r)
   unfolding abs meaning rule_state live_definition
-  no_value n out h = refused (abs l m) (of_value n) out 10 (dead (abs l m) (of_value n) out (names.value_dead S.sound ended n h)) refl
+  no_value n out h = refused (abs l m) (of_value n) out 10 h.1 (dead (abs l m) (of_value n) out (names.value_dead S.sound ended n h.0)) refl
 
-  pub no_block : (n : ℕ) (out : List ℕ) → Unnamed P blk n → Told (abs l m) (of_block n) out out (Refused 8)
+  pub no_block : (n : ℕ) (out : List ℕ) {r : Refusal} → LooksUp P blk n (Err r) → Told (abs l m) (of_block n) out out (Err r)
   unfolding abs meaning rule_state live_definition
-  no_block n out h = refused (abs l m) (of_block n) out 8 (dead (abs l m) (of_block n) out (names.block_dead S.sound ended n h)) refl
+  no_block n out h = refused (abs l m) (of_block n) out 8 h.1 (dead (abs l m) (of_block n) out (names.block_dead S.sound ended n h.0)) refl
 
   module _ (k : ℕ) (lc : Live P (con l use_sets k).1) where
     abbrev d : Definition
@@ -120,31 +120,18 @@ module _ {l : Layout} {m : List ℕ} (S : SoundStore l m) where
     unfolding abs meaning rule_state
     long n h = h.is ∙ sym (names.uses_long S.sound ended (con l use_sets k) (is_def l k) (con_holder l.values l.ops use_sets k) lc)
 
-    pub too_short : (n : ℕ) (out : List ℕ) → LengthIs l use_sets k m n → length out < n → Told (abs l m) d out out (Refused 22)
-    too_short n out h g = refused (abs l m) d out 22 (short (abs l m) d out is_live (omega (arith, g, long n h))) refl
+    pub too_short : (n : ℕ) (out : List ℕ) → LengthIs l use_sets k m n → length out < n → Told (abs l m) d out out (Err NoRoom)
+    too_short n out h g = refused (abs l m) d out 22 refl (short (abs l m) d out is_live (omega (arith, g, long n h))) refl
 
-    pub with_room : (n : ℕ) (out : List ℕ) {out' : List ℕ} {r : ℕ} → LengthIs l use_sets k m n → n ≤ length out → Written (uses_among P d (P.tab usg).order) out 0 out' r → Told (abs l m) d out out' (Filled r)
+    pub with_room : (n : ℕ) (out : List ℕ) {out' : List ℕ} {r : ℕ} → LengthIs l use_sets k m n → n ≤ length out → Written (uses_among P d (P.tab usg).order) out 0 out' r → Told (abs l m) d out out' (Ok r)
     with_room n out {out'} {r} h g w =
         let enough : length (uses_of (abs l m).history d) ≤ length out = omega (arith, g, long n h) in
         filled (abs l m) d out (fits (abs l m) d out is_live enough) enough (subst (λ (us : List ℕ). Written us out 0 out' r) (sym (uses_are l m d)) w)
 
--- none among no uses
-pub among_none : (P : State) (d : Definition) → uses_among P d [] ≡ []
-unfolding keys_where
-among_none P d = refl
+-- what a turn of the loop over the live uses puts
+module _ {o : Option ℕ} {us : List ℕ} (e : listed o ≡ us) where
+  pub put_written : {x : ℕ} {q r s : Pen ℕ} → o ≡ Some x → s ≡ r → Wrote (x ∷ []) q r → Wrote us q s
+  put_written {x} {q} h z w = subst (λ (p : Pen ℕ). Wrote us q p) (sym z) (same_text (ap listed (sym h) ∙ e) w)
 
--- ---- what a look-up found
-
-pub found_at : (P : State) (k : Kind) (n p : ℕ) {r : Found} → Finds P k n r → r ≡ At p → Live P (k, p) × (num P (k, p) ≡ n)
-found_at P k n p h e = subst (Finds P k n) e h
-
-pub found_none : (P : State) (k : Kind) (n : ℕ) {r : Found} → Finds P k n r → r ≡ Nothing → Unnamed P k n
-found_none P k n h e = subst (Finds P k n) e h
-
--- the definition by its kind
-pub by_value : (k n : ℕ) → k ≡ 0 → of_value n ≡ definition_by k n
-by_value k n e = ap (λ (j : ℕ). definition_by j n) (sym e)
-
-pub by_block : (k n : ℕ) → (k ≡ 0 → ⊥) → of_block n ≡ definition_by k n
-by_block zero n h = absurd (h refl)
-by_block (suc k) n h = refl
+  pub put_left : {q r : Pen ℕ} → o ≡ None → r ≡ q → Wrote us q r
+  put_left {q} h z = subst (λ (p : Pen ℕ). Wrote us q p) (sym z) (same_text (ap listed (sym h) ∙ e) nothing)

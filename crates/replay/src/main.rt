@@ -2,142 +2,76 @@
 // is (differential/README.md has the form). Prints how many entries there are and how many differ.
 #![tactic(auto)]
 
-ghost use Rattle.std.specs.Prelude.{◌≤◌};
 ghost use Rattle.seqs.specs.Seqs.{Says};
 ghost use Rattle.replay.specs.Same.{Starts};
-
-// What became of an entry: there is none, it is as it must be, or not.
-#[derive(Clone, Copy)]
-pub enum Outcome {
-    End,
-    Same,
-    Differs,
-}
 
 // Whether `a` starts with `b`.
 fn starts_with(a: &[u8], b: &[u8]) -> bool
     ensures { Says result (Starts a.now b.now) }
 {
-    let n = b.len();
-    if a.len() < n {
-        return false;
-    }
-    let mut i = 0;
-    while i < n {
-        if a[i] != b[i] {
-            return false;
-        }
-        i += 1;
-    }
-    true
+    a.starts_with(b)
 }
 
 // Whether the program prints just this for the script.
 fn prints(script: &[u8], want: &[u8]) -> bool {
     let mut out = [0u8; 262144];
     let n = program::print(script, &mut out);
-    let good = starts_with(&out, want);
-    good && n == want.len()
+    starts_with(&out, want) && n == want.len()
 }
 
-// Whether the program prints just the first `m` bytes of `want` for the first `n` of `script`.
-fn prints_front(script: &[u8], n: usize, want: &[u8], m: usize) -> bool {
-    if script.len() < n {
-        return false;
+// The next `n` bytes of standard input, in front of `buf`; none where there are not so many, or no room for them.
+fn read_front(buf: &mut [u8], n: usize) -> Option<&[u8]> {
+    if buf.len() < n {
+        return None;
     }
-    if want.len() < m {
-        return false;
+    let front = &mut buf[..n];
+    if io::read_full(0, front) == n {
+        Some(front)
+    } else {
+        None
     }
-    prints(&script[0..n], &want[0..m])
 }
 
-// Fills the first `k` bytes of `buf` from standard input: no where there are not so many.
-fn read_into(buf: &mut [u8], k: usize) -> bool {
-    if buf.len() < k {
-        return false;
-    }
-    let got = io::read_full(0, &mut buf[0..k]);
-    got == k
-}
-
-// The number that the next `k` bytes have, the lowest first; 4,294,967,295 where there are not so many.
-fn next_number(k: usize) -> u32 {
+// The number that the next two bytes have, the lowest first.
+fn next_short() -> Option<usize> {
     let mut b = [0u8; 4];
-    let good = read_into(&mut b, k);
-    if !good {
-        return 4294967295;
-    }
-    edit::number(&b, 0)
+    read_front(&mut b[..2], 2)?;
+    Some(edit::number(&b, 0) as usize)
 }
 
-// What follows the script, which has `n` bytes: the length of what must be printed for it, and that.
-fn compare(script: &[u8], n: usize) -> Outcome {
-    let m = next_number(4) as usize;
-    if 262144 < m {
-        return Outcome::Differs;
-    }
-    let mut want = [0u8; 262144];
-    let good = read_into(&mut want, m);
-    if !good {
-        return Outcome::Differs;
-    }
-    let same = prints_front(script, n, &want, m);
-    if same {
-        return Outcome::Same;
-    }
-    Outcome::Differs
+// The number that the next four bytes have, likewise.
+fn next_long() -> Option<usize> {
+    let mut b = [0u8; 4];
+    read_front(&mut b, 4)?;
+    Some(edit::number(&b, 0) as usize)
 }
 
-// The next entry: a script behind its length, and what must be printed.
-fn replay_entry() -> Outcome {
-    let n = next_number(2) as usize;
-    if n == 4294967295 {
-        return Outcome::End;
-    }
-    if 16385 < n {
-        return Outcome::Differs;
-    }
-    let mut script = [0u8; 16385];
-    let good = read_into(&mut script, n);
-    if !good {
-        return Outcome::Differs;
-    }
-    compare(&script, n)
+// Whether the program prints for the script, of `n` bytes, what follows it; none where either is longer than it may be, or the
+// input ends before it.
+fn compare(n: usize) -> Option<bool> {
+    let mut buf = [0u8; 16385];
+    let script = read_front(&mut buf, n)?;
+    let m = next_long()?;
+    let mut out = [0u8; 262144];
+    let want = read_front(&mut out, m)?;
+    Some(prints(script, want))
 }
 
-// 1 where the entry is not as it must be.
-fn fault(r: Outcome) -> usize
-    ensures { result ≤ 1 }
-{
-    match r {
-        Outcome::End => 0,
-        Outcome::Same => 0,
-        Outcome::Differs => 1,
-    }
+// Whether the next entry, a script behind its length, and what must be printed behind its own, is as it must be; none at the end.
+fn replay_entry() -> Option<bool> {
+    let n = next_short()?;
+    Some(compare(n).unwrap_or(false))
 }
 
-fn is_end(r: Outcome) -> bool {
-    match r {
-        Outcome::End => true,
-        Outcome::Same => false,
-        Outcome::Differs => false,
-    }
-}
-
-fn main() {
-    let mut i: usize = 0;
-    let mut differ: usize = 0;
-    while i < 100000 {
-        let r = replay_entry();
-        let end = is_end(r);
-        if end {
+fn main(rt: HostRuntime) -> std::io::Result<()> {
+    let mut scripts: u64 = 0;
+    let mut differ: u64 = 0;
+    for _i in 0..100000u64 {
+        let Some(same) = replay_entry() else {
             break;
-        }
-        differ += fault(r);
-        i += 1;
+        };
+        scripts += 1;
+        differ += u64::from(!same);
     }
-    io::print_decimal(1, i as u64);
-    io::write_all(1, b" scripts, ");
-    io::print_decimal(1, differ as u64);
-    io::write_all(1, b" differ\n");
+    println!(rt; "{scripts} scripts, {differ} differ")
 }

@@ -8,8 +8,7 @@ use native.Mathlib.Decide.{dec_lt}
 use native.Mathlib.Omega.{arith}
 use lib.ListN.{length, drop}
 use Rattle.edit.specs.Record.{Cut, nothing, broken, whole, cut, Read, refused, asks}
-use Rattle.edit.specs.Answer.{Reply, numbers_of}
-use Rattle.edit.specs.declared.Answer.{Answer}
+use Rattle.edit.specs.Answer.{Reply, Answer, numbers_of}
 use Rattle.rules.specs.History.{Five}
 use Rattle.rules.specs.State.{start}
 use Rattle.rules.specs.Step.{obey, step_cut, step}

@@ -9,4 +9,3 @@ pub mod Turns
 pub mod Written
 pub mod Running
 pub mod Judging
-pub mod Cleared

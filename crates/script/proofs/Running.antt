@@ -5,13 +5,14 @@ use Prim.Native.Nat.{ℕ, zero, suc, ◌+◌, ◌-◌, ◌*◌, ◌/◌, ◌≤�
 use native.Mathlib.Omega.{arith}
 use native.Mathlib.Nat.{sub-zero}
 use lib.ListN.{length, drop, length-append, length-drop}
-use Rattle.edit.specs.Record.{Cut, nothing, broken, whole, cut, Read, refused, asks, read}
-use Rattle.edit.specs.Taken.{record_kind, fields_of, record_at, cut_of, NextCut, edit_of, read_of, Taken}
-use Rattle.edit.specs.Answer.{Reply, refuse, numbers_of, Put}
-use Rattle.edit.specs.declared.Answer.{Answer}
-use Rattle.edit.specs.declared.Next.{Next}
-use Rattle.edit.specs.declared.Next.TheVariants.{Nothing, Broken, Whole}
-use Rattle.edit.specs.declared.Reading.{Reading}
+use Rattle.std.specs.Prelude.{Result, Some, None, Ok, Err}
+use Rattle.edit.specs.Kinds.{number_of, code_of}
+use Rattle.edit.specs.Record.{Cut, nothing, broken, whole, cut, Read, read}
+use Rattle.edit.specs.Taken.{record_kind, fields_of, record_at, cut_of, NextCut, edit_by, read_of, Taken}
+use Rattle.edit.specs.Answer.{Reply, refuse, Answer, numbers_of, Put}
+use Rattle.edit.specs.declared.Kind.{Kind}
+use Rattle.edit.specs.declared.Refusal.{Refusal}
+use Rattle.edit.specs.declared.Refusal.TheVariants.{NoRoom}
 use Rattle.rules.specs.Step.{obey}
 use Rattle.rules.proofs.Closure.{accepted_reply}
 use Rattle.rules.specs.Script.{ended_with, after_reply, turn, run_by, run}
@@ -22,34 +23,37 @@ use Rattle.context.specs.declared.Layout.{Layout}
 use Rattle.context.specs.Memory.{part, SoundStore}
 use Rattle.context.specs.Performed.{abs}
 use Rattle.edits.specs.Scratch.{PerformedWith}
-use Rattle.script.specs.declared.Step.TheVariants.{Stop, Last, On}
 use Rattle.script.specs.Calls.{flat, Over, Course, over, next, RanOn}
 use Rattle.script.specs.Records.{Obeyed, WentOn, Stepped, before, Going}
-use Rattle.script.proofs.Turns.{turn_full, turn_broken, turn_whole, run_turn, run_on, run_none, before_ended, before_more}
+use Rattle.script.proofs.Turns.{some_left, turn_full, turn_broken, turn_whole, run_turn, run_on, run_none, before_ended, before_more}
 use Rattle.script.proofs.Written.{written_more}
 
 -- ---- a record that was read
 
-module _ {l : Layout} {m : List ℕ} (S : SoundStore l m) (bytes : List ℕ) (r : Reading) (T : Taken bytes r) where
-  pub obeyed_refused : (n : ℕ) → r ≡ Reading.Refused n → (s : List ℕ) → Obeyed l (read (record_kind bytes) (fields_of bytes)) m m s s (Answer.Refused n)
+module _ {l : Layout} {m : List ℕ} (S : SoundStore l m) (bytes : List ℕ) where
+  pub obeyed_refused : {e : Refusal} → Taken bytes (Err e) → (s : List ℕ) → Obeyed l (read (record_kind bytes) (fields_of bytes)) m m s s (Err e)
   unfolding read_of obey numbers_of
-  obeyed_refused n e s =
-      let q : read (record_kind bytes) (fields_of bytes) ≡ refused n = T.same ∙ ap (read_of (fields_of bytes)) e in
-      record { sound = S; reply = ap (λ (x : Read). (obey (abs l m) x).0) (sym q); state = ap (λ (x : Read). (obey (abs l m) x).1) (sym q); places = settles_same (λ k. refl); kept = λ n. refl; rest = refl; scratch = refl }
+  obeyed_refused T s = record {
+    sound = S;
+    reply = ap (λ (x : Read). (obey (abs l m) x).0) (sym T.same);
+    state = ap (λ (x : Read). (obey (abs l m) x).1) (sym T.same);
+    places = settles_same (λ k. refl);
+    kept = λ n. refl;
+    rest = refl;
+    scratch = refl;
+  }
 
-  pub obeyed_asks : (k : ℕ) → r ≡ Reading.Asks k → {m' s s' : List ℕ} {a : Answer} → PerformedWith l (edit_of k (fields_of bytes)) m m' s s' a → Obeyed l (read (record_kind bytes) (fields_of bytes)) m m' s s' a
+  pub obeyed_asks : {k : Kind} → Taken bytes (Ok k) → {m' s s' : List ℕ} {a : Answer} → PerformedWith l (edit_by k (fields_of bytes)) m m' s s' a → Obeyed l (read (record_kind bytes) (fields_of bytes)) m m' s s' a
   unfolding read_of obey
-  obeyed_asks k e P =
-      let q : read (record_kind bytes) (fields_of bytes) ≡ asks (edit_of k (fields_of bytes)) = T.same ∙ ap (read_of (fields_of bytes)) e in
-      record {
-        sound = P.performed.sound;
-        reply = P.performed.reply ∙ ap (λ (x : Read). (obey (abs l m) x).0) (sym q);
-        state = P.performed.state ∙ ap (λ (x : Read). (obey (abs l m) x).1) (sym q);
-        places = P.performed.places;
-        kept = λ n. P.performed.kept (λ z. n (ap (λ (x : Read). (obey (abs l m) x).0.refusal) q ∙ accepted_reply (abs l m) (edit_of k (fields_of bytes)) z));
-        rest = P.performed.rest;
-        scratch = P.scratch;
-      }
+  obeyed_asks {k} T P = record {
+    sound = P.performed.sound;
+    reply = P.performed.reply ∙ ap (λ (x : Read). (obey (abs l m) x).0) (sym T.same);
+    state = P.performed.state ∙ ap (λ (x : Read). (obey (abs l m) x).1) (sym T.same);
+    places = P.performed.places;
+    kept = λ n. P.performed.kept (λ z. n (ap (λ (x : Read). (obey (abs l m) x).0.refusal) T.same ∙ accepted_reply (abs l m) (edit_by k (fields_of bytes)) z));
+    rest = P.performed.rest;
+    scratch = P.scratch;
+  }
 
 -- ---- no record is obeyed any more
 
@@ -69,55 +73,52 @@ over_none (x ∷ bytes) room h = absurd (omega arith)
 -- ---- one record of a script
 
 module _ (l : Layout) (bytes : List ℕ) (at count : ℕ) (m s out : List ℕ) where
-  pub step_full : at < length bytes → length out / 3 ≤ count → Stepped l bytes at count m m s s out out (Stop 22)
+  pub step_full : at < length bytes → length out / 3 ≤ count → Stepped l bytes at count m m s s out out (Err NoRoom)
   step_full h r = record {
     step = record { turned = λ on. turn_full on (abs l m) (drop at bytes) (length out / 3 - count) (omega (arith, length-drop at bytes)) (omega arith); over = over_full (cut (drop at bytes)) (length out / 3 - count) (omega arith); kept = refl; answers = refl };
     scratch = refl;
   }
 
-  module _ (r : Next) (N : NextCut bytes at r) where
-    pub step_nothing : r ≡ Nothing → Stepped l bytes at count m m s s out out (Stop 0)
-    unfolding cut_of turn
-    step_nothing e = record {
-      step = record { turned = λ on. ap (λ (c : Cut). turn on (abs l m) c (length out / 3 - count)) (N.same ∙ ap (cut_of bytes at) e); over = subst (λ (c : Cut). Over c (length out / 3 - count)) (sym (N.same ∙ ap (cut_of bytes at) e)) tt; kept = refl; answers = refl };
-      scratch = refl;
-    }
+  -- before the end of the bytes, a search finds a record, or a broken one
+  pub step_left : at < length bytes → NextCut bytes at (Ok None) → ⊥
+  unfolding cut_of
+  step_left h N = some_left (drop at bytes) (omega (arith, length-drop at bytes)) N.same
 
-    pub step_broken : r ≡ Broken → count < length out / 3 → {out' : List ℕ} → Put out out' count (numbers_of (Answer.Refused 1)) → Stepped l bytes at count m m s s out out' Last
-    unfolding cut_of numbers_of
-    step_broken e h P = record {
-      step = record {
-        turned = λ on. turn_broken on (abs l m) (cut (drop at bytes)) (length out / 3 - count) (length out / 3 - suc count) (N.same ∙ ap (cut_of bytes at) e) (omega arith);
-        over = subst (λ (c : Cut). Over c (length out / 3 - count)) (sym (N.same ∙ ap (cut_of bytes at) e)) tt;
-        room = h;
-        kept = refl;
-        answers = P;
-      };
-      scratch = refl;
-    }
+  pub step_broken : {e : Refusal} → NextCut bytes at (Err e) → count < length out / 3 → {out' : List ℕ} → Put out out' count (numbers_of (Err e)) → Stepped l bytes at count m m s s out out' (Ok None)
+  unfolding cut_of numbers_of
+  step_broken {e} N h {out'} P = record {
+    step = record {
+      turned = λ on. turn_broken on (abs l m) (cut (drop at bytes)) (length out / 3 - count) (length out / 3 - suc count) N.same (omega arith);
+      over = subst (λ (c : Cut). Over c (length out / 3 - count)) (sym N.same) tt;
+      room = h;
+      kept = refl;
+      answers = subst (λ (r : Refusal). Put out out' count (refuse (number_of r))) (N.broken e refl) P;
+    };
+    scratch = refl;
+  }
 
-    pub step_whole : (end : ℕ) → r ≡ Whole end → count < length out / 3 → {m' s' out' : List ℕ} (a : Answer) → Obeyed l (read (record_kind (record_at bytes at end)) (fields_of (record_at bytes at end))) m m' s s' a
-        → Put out out' count (numbers_of a) → Stepped l bytes at count m m' s s' out out' (On end)
-    unfolding cut_of
-    step_whole end e h {m'} a O P = record {
-      step = record {
-        reply = numbers_of a;
-        turned = λ on.
-            turn_whole on (abs l m) (cut (drop at bytes)) (length out / 3 - count) (length out / 3 - suc count) (record_kind (record_at bytes at end)) (fields_of (record_at bytes at end)) (drop end bytes) (N.same ∙ ap (cut_of bytes at) e) (omega arith)
-            ∙ ap (λ (x : Reply). after_reply x (on (length out / 3 - suc count) (obey (abs l m) (read (record_kind (record_at bytes at end)) (fields_of (record_at bytes at end)))).1 (drop end bytes))) (sym O.reply)
-            ∙ ap (λ (x : RState). after_reply (numbers_of a) (on (length out / 3 - suc count) x (drop end bytes))) (sym O.state);
-        kind = record_kind (record_at bytes at end);
-        fields = fields_of (record_at bytes at end);
-        cut_off = N.same ∙ ap (cut_of bytes at) e;
-        words = record { sound = O.sound; state = O.state; places = O.places; kept = O.kept };
-        room = h;
-        lies = N.lies end e;
-        sound = O.sound;
-        rest = O.rest;
-        answers = P;
-      };
-      scratch = O.scratch;
-    }
+  pub step_whole : {end : ℕ} → NextCut bytes at (Ok (Some end)) → count < length out / 3 → {m' s' out' : List ℕ} {a : Answer} → Obeyed l (read (record_kind (record_at bytes at end)) (fields_of (record_at bytes at end))) m m' s s' a
+      → Put out out' count (numbers_of a) → Stepped l bytes at count m m' s s' out out' (Ok (Some end))
+  unfolding cut_of
+  step_whole {end} N h {a = a} O P = record {
+    step = record {
+      reply = numbers_of a;
+      turned = λ on.
+          turn_whole on (abs l m) (cut (drop at bytes)) (length out / 3 - count) (length out / 3 - suc count) (record_kind (record_at bytes at end)) (fields_of (record_at bytes at end)) (drop end bytes) N.same (omega arith)
+          ∙ ap (λ (x : Reply). after_reply x (on (length out / 3 - suc count) (obey (abs l m) (read (record_kind (record_at bytes at end)) (fields_of (record_at bytes at end)))).1 (drop end bytes))) (sym O.reply)
+          ∙ ap (λ (x : RState). after_reply (numbers_of a) (on (length out / 3 - suc count) x (drop end bytes))) (sym O.state);
+      kind = record_kind (record_at bytes at end);
+      fields = fields_of (record_at bytes at end);
+      cut_off = N.same;
+      words = record { sound = O.sound; state = O.state; places = O.places; kept = O.kept };
+      room = h;
+      lies = N.lies end refl;
+      sound = O.sound;
+      rest = O.rest;
+      answers = P;
+    };
+    scratch = O.scratch;
+  }
 
 -- ---- all of them
 
@@ -144,11 +145,11 @@ module _ {l : Layout} {bytes m₀ m out₀ out : List ℕ} {at count : ℕ} (G :
   same_room = ap (λ (n : ℕ). n / 3) G.long
 
   -- the run of what is left ends here, with these answers
-  ends : (n k : ℕ) (xs : List Reply) → k ≡ count + length xs → {m' out' : List ℕ} → run left (abs l m) (drop at bytes) ≡ ended_with n xs (abs l m) → m' ≡ m
-      → Over (cut (drop at bytes)) left → out' ≡ flat (G.replies ++ xs) ++ drop (3 * k) out₀ → RanOn l bytes m₀ m' out₀ out' (record { code = n; count = k })
+  ends : (r : Result (Unit {0}) Refusal) (k : ℕ) (xs : List Reply) → k ≡ count + length xs → {m' out' : List ℕ} → run left (abs l m) (drop at bytes) ≡ ended_with (code_of r) xs (abs l m) → m' ≡ m
+      → Over (cut (drop at bytes)) left → out' ≡ flat (G.replies ++ xs) ++ drop (3 * k) out₀ → RanOn l bytes m₀ m' out₀ out' (record { end = r; count = k })
   unfolding ended_with
-  ends n k xs c {m'} e z o w =
-      let all : run (length out₀ / 3) (abs l m₀) bytes ≡ ended_with n (G.replies ++ xs) (abs l m) = G.whole ∙ ap (before G.replies) e ∙ before_ended G.replies xs n (abs l m) in
+  ends r k xs c {m'} e z o w =
+      let all : run (length out₀ / 3) (abs l m₀) bytes ≡ ended_with (code_of r) (G.replies ++ xs) (abs l m) = G.whole ∙ ap (before G.replies) e ∙ before_ended G.replies xs (code_of r) (abs l m) in
       record {
         sound = subst (SoundStore l) (sym z) G.sound;
         state = ap (abs l) z ∙ ap (λ (x : Rules.Ran). x.state) (sym all);
@@ -167,18 +168,18 @@ module _ {l : Layout} {bytes m₀ m out₀ out : List ℕ} {at count : ℕ} (G :
   over_here : Over (cut (drop at bytes)) (length out / 3 - count) → Over (cut (drop at bytes)) left
   over_here o = subst (λ (n : ℕ). Over (cut (drop at bytes)) (n - count)) same_room o
 
-  pub going_stop : (n : ℕ) {m' s s' out' : List ℕ} → Stepped l bytes at count m m' s s' out out' (Stop n) → RanOn l bytes m₀ m' out₀ out' (record { code = n; count = count })
-  going_stop n T =
-      ends n count [] (omega arith) (run_turn left (abs l m) (drop at bytes) ∙ here (run_by (length (drop at bytes))) ∙ T.step.turned (run_by (length (drop at bytes)))) T.step.kept (over_here T.step.over)
+  pub going_stop : {e : Refusal} {m' s s' out' : List ℕ} → Stepped l bytes at count m m' s s' out out' (Err e) → RanOn l bytes m₀ m' out₀ out' (record { end = Err e; count = count })
+  going_stop {e} T =
+      ends (Err e) count [] (omega arith) (run_turn left (abs l m) (drop at bytes) ∙ here (run_by (length (drop at bytes))) ∙ T.step.turned (run_by (length (drop at bytes)))) T.step.kept (over_here T.step.over)
       (T.step.answers ∙ G.written ∙ ap (λ (x : List Reply). flat x ++ drop (3 * count) out₀) (sym (append-nil G.replies)))
 
-  pub going_last : {m' s s' out' : List ℕ} → Stepped l bytes at count m m' s s' out out' Last → RanOn l bytes m₀ m' out₀ out' (record { code = 0; count = count + 1 })
+  pub going_last : {m' s s' out' : List ℕ} → Stepped l bytes at count m m' s s' out out' (Ok None) → RanOn l bytes m₀ m' out₀ out' (record { end = Ok tt; count = count + 1 })
   going_last T =
-      ends 0 (count + 1) (refuse 1 ∷ []) refl (run_turn left (abs l m) (drop at bytes) ∙ here (run_by (length (drop at bytes))) ∙ T.step.turned (run_by (length (drop at bytes)))) T.step.kept (over_here T.step.over)
+      ends (Ok tt) (count + 1) (refuse 1 ∷ []) refl (run_turn left (abs l m) (drop at bytes) ∙ here (run_by (length (drop at bytes))) ∙ T.step.turned (run_by (length (drop at bytes)))) T.step.kept (over_here T.step.over)
       (written_more G.replies (refuse 1) count out₀ out _ G.counted (omega (arith, T.step.room, same_room)) G.long G.written T.step.answers)
 
-  pub going_on : (end : ℕ) {m' s s' out' : List ℕ} → Stepped l bytes at count m m' s s' out out' (On end) → Going l bytes m₀ m' out₀ out' end (count + 1)
-  going_on end {m'} {out' = out'} T =
+  pub going_on : {end : ℕ} {m' s s' out' : List ℕ} → Stepped l bytes at count m m' s s' out out' (Ok (Some end)) → Going l bytes m₀ m' out₀ out' end (count + 1)
+  going_on {end} {m'} {out' = out'} T =
       let W : WentOn l bytes at count m m' out out' end = T.step in
       let f : ℕ = length (drop at bytes) in
       record {
@@ -202,6 +203,6 @@ module _ {l : Layout} {bytes m₀ m out₀ out : List ℕ} {at count : ℕ} (G :
       room_on : length out / 3 - suc count ≡ length out₀ / 3 - (count + 1)
       room_on = omega (arith, same_room)
 
-  pub going_end : length bytes ≤ at → RanOn l bytes m₀ m out₀ out (record { code = 0; count = count })
+  pub going_end : length bytes ≤ at → RanOn l bytes m₀ m out₀ out (record { end = Ok tt; count = count })
   going_end h =
-      ends 0 count [] (omega arith) (run_none left (abs l m) (drop at bytes) (omega (arith, length-drop at bytes))) refl (over_none (drop at bytes) left (omega (arith, length-drop at bytes))) (G.written ∙ ap (λ (x : List Reply). flat x ++ drop (3 * count) out₀) (sym (append-nil G.replies)))
+      ends (Ok tt) count [] (omega arith) (run_none left (abs l m) (drop at bytes) (omega (arith, length-drop at bytes))) refl (over_none (drop at bytes) left (omega (arith, length-drop at bytes))) (G.written ∙ ap (λ (x : List Reply). flat x ++ drop (3 * count) out₀) (sym (append-nil G.replies)))

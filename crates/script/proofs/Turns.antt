@@ -28,7 +28,7 @@ shorter (a ∷ b ∷ c ∷ d ∷ r) k fs rest e = go (length_ok (a + 256 * b) (4
     go false e = absurd (let z : ◌≡◌ {A = ℕ} 0 1 = cc in omega arith)
 
 -- bytes that are left are cut off or broken
-some_left : (bytes : List ℕ) → 0 < length bytes → cut bytes ≢ nothing
+pub some_left : (bytes : List ℕ) → 0 < length bytes → cut bytes ≢ nothing
 unfolding cut
 some_left [] h e = omega arith
 some_left (a ∷ []) h e = let z : ◌≡◌ {A = ℕ} 0 1 = cc in omega arith

@@ -1,9 +1,10 @@
 -- The calls of a store in memory: what a single edit and a script answer, and what every lent buffer holds after them.
 -- Assumes nothing: these are definitions.
-use Rattle.std.specs.Prelude.{◌≡◌, ◌≢◌, List, [], ◌∷◌, ◌++◌, ℕ, zero, suc, ◌*◌, ◌/◌, ◌≤◌, ◌<◌, length, drop, replicate}
+use Rattle.std.specs.Prelude.{◌≡◌, ◌≢◌, ◌⊎◌, List, [], ◌∷◌, ◌++◌, ℕ, zero, suc, ◌*◌, ◌/◌, ◌≤◌, ◌<◌, length, drop, replicate, Result, Ok, Err}
 use Rattle.edit.specs.Record.{Edit, Cut, nothing, broken, whole, cut, Read, refused, asks, read}
-use Rattle.edit.specs.Answer.{Reply, refuse, numbers_of}
-use Rattle.edit.specs.declared.Answer.{Answer}
+use Rattle.edit.specs.Kinds.{code_of, number_of}
+use Rattle.edit.specs.Answer.{Reply, refuse, Answer, numbers_of}
+use Rattle.edit.specs.declared.Refusal.{Refusal}
 use Rattle.rules.specs.Step.{obey}
 use Rattle.rules.specs.Script.{run}
 use Rattle.places.specs.Settled.{Settles}
@@ -15,6 +16,11 @@ use Rattle.script.specs.declared.Ran.{Ran}
 -- the memory is a sound store with the capacities that its header names
 abbrev pub SoundWords : List ℕ → Type 0
 SoundWords m = SoundStore (layout_of m) m
+
+-- the layout that an edit with a scratch of so many words is put with: 6 where the store is not sound, then 22 where the scratch is short
+abbrev pub Readied : List ℕ → ℕ → Result Layout Refusal → Type 0
+Readied m room (Ok l) = (l ≡ layout_of m) × SoundWords m × ((layout_of m).ops ≤ room)
+Readied m room (Err e) = ((SoundWords m → ⊥) × (number_of e ≡ 6)) ⊎ (SoundWords m × (room < (layout_of m).ops) × (number_of e ≡ 22))
 
 -- ---- a single edit
 
@@ -80,7 +86,7 @@ pub data Course (l : Layout) : List ℕ → ℕ → List ℕ → List ℕ → Ty
 
 -- a script that ended before its first record, with this number: nothing is written but the scratch
 pub record Ended (n : ℕ) (m m' out out' : List ℕ) (r : Ran) : Type 0 where
-  pub code : r.code ≡ n
+  pub code : code_of r.end ≡ n
   pub count : r.count ≡ 0
   pub kept : m' ≡ m
   pub answers : out' ≡ out
@@ -90,7 +96,7 @@ pub record RanOn (l : Layout) (bytes m m' out out' : List ℕ) (r : Ran) : Type 
   pub sound : SoundStore l m'
   pub state : abs l m' ≡ (run (length out / 3) (abs l m) bytes).state
   pub places : Course l bytes (length out / 3) m m'
-  pub code : r.code ≡ (run (length out / 3) (abs l m) bytes).code
+  pub code : code_of r.end ≡ (run (length out / 3) (abs l m) bytes).code
   pub count : r.count ≡ length (run (length out / 3) (abs l m) bytes).answers
   pub answers : out' ≡ flat (run (length out / 3) (abs l m) bytes).answers ++ drop (3 * r.count) out
   pub rest : part l m' 14 ≡ part l m 14

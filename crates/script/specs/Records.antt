@@ -1,10 +1,11 @@
--- One record of a script, and the records from there on. What `Step` stands for: the rules' turn, whatever goes on after it.
+-- One record of a script, and the records from there on. What the result of a step stands for: the rules' turn, whatever goes on after it.
 -- Assumes nothing: these are definitions.
-use Rattle.std.specs.Prelude.{◌≡◌, ◌≢◌, List, [], ◌∷◌, ◌++◌, ℕ, suc, ◌-◌, ◌*◌, ◌/◌, ◌≤◌, ◌<◌, length, drop}
+use Rattle.std.specs.Prelude.{◌≡◌, ◌≢◌, List, [], ◌∷◌, ◌++◌, ℕ, suc, ◌-◌, ◌*◌, ◌/◌, ◌≤◌, ◌<◌, length, drop, Option, Some, None, Result, Ok, Err}
 use Rattle.edit.specs.Record.{whole, cut, Read, read}
 use Rattle.edit.specs.Taken.{Lies}
-use Rattle.edit.specs.Answer.{Reply, refuse, numbers_of, Put}
-use Rattle.edit.specs.declared.Answer.{Answer}
+use Rattle.edit.specs.Kinds.{number_of}
+use Rattle.edit.specs.Answer.{Reply, refuse, Answer, numbers_of, Put}
+use Rattle.edit.specs.declared.Refusal.{Refusal}
 use Rattle.rules.specs.Step.{obey}
 use Rattle.rules.specs.Script.{ended_with, after_reply, turn, run}
 use Rattle.rules.specs.Script as Rules
@@ -14,8 +15,6 @@ use Rattle.context.specs.declared.Layout.{Layout}
 use Rattle.context.specs.Memory.{part, state_of, SoundStore}
 use Rattle.context.specs.Performed.{abs}
 use Rattle.script.specs.declared.Ran.{Ran}
-use Rattle.script.specs.declared.Step.{Step}
-use Rattle.script.specs.declared.Step.TheVariants.{Stop, Last, On}
 use Rattle.script.specs.Calls.{flat, Over, Turned, Course, RanOn}
 
 -- what was read of a record is obeyed: refused, or its edit put to the store; the scratch is as it was
@@ -62,13 +61,13 @@ module _ (l : Layout) (bytes : List ℕ) (at count : ℕ) (m m' out out' : List 
     pub rest : part l m' 14 ≡ part l m 14
     pub answers : Put out out' count reply
 
-  abbrev pub StepIs : Step → Type 0
-  StepIs (Stop n) = Stopped n
-  StepIs Last = Finished
-  StepIs (On end) = WentOn end
+  abbrev pub StepIs : Result (Option ℕ) Refusal → Type 0
+  StepIs (Err e) = Stopped (number_of e)
+  StepIs (Ok None) = Finished
+  StepIs (Ok (Some end)) = WentOn end
 
 -- a step of a script; the scratch is as it was
-pub record Stepped (l : Layout) (bytes : List ℕ) (at count : ℕ) (m m' s s' out out' : List ℕ) (r : Step) : Type 0 where
+pub record Stepped (l : Layout) (bytes : List ℕ) (at count : ℕ) (m m' s s' out out' : List ℕ) (r : Result (Option ℕ) Refusal) : Type 0 where
   pub step : StepIs l bytes at count m m' out out' r
   pub scratch : s' ≡ s
 

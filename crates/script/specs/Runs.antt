@@ -1,8 +1,8 @@
 -- A list of calls of a store in memory, from the contracts of start, of a single edit and of a script alone.
 -- Assumes nothing: these are definitions.
 use Rattle.std.specs.Prelude.{◌≡◌, List, [], ◌∷◌, ℕ, zero, suc, ◌/◌, length, drop}
-use Rattle.edit.specs.Answer.{Reply, numbers_of, reply_at}
-use Rattle.edit.specs.declared.Answer.{Answer}
+use Rattle.edit.specs.Kinds.{code_of}
+use Rattle.edit.specs.Answer.{Reply, Answer, numbers_of, reply_at}
 use Rattle.rules.specs.History.{Five}
 use Rattle.rules.specs.Calls.{Call}
 use Rattle.places.specs.Alias.{RState}
@@ -10,7 +10,7 @@ use Rattle.rules.specs.Refine as Refine
 use Rattle.context.specs.declared.Layout.{Layout}
 use Rattle.context.specs.Memory.{layout_of}
 use Rattle.context.specs.Performed.{abs}
-use Rattle.context.specs.Start.{five_of, StartIs}
+use Rattle.context.specs.Start.{five_of, StartBy}
 use Rattle.script.specs.declared.Ran.{Ran}
 use Rattle.script.specs.Calls.{SoundWords, Edited, Scripted}
 use Rattle.script.specs.See.{see}
@@ -29,7 +29,7 @@ pub record Started (k : Five) (m : List ℕ) : Type 0 where
   pub capacities : Layout
   pub memory : List ℕ
   pub same : five_of capacities ≡ k
-  pub accepted : StartIs capacities memory m 0
+  pub accepted : StartBy capacities memory m 0
 
 -- a single edit was called on the memory m, with some scratch: r is its answer, n the memory after it
 pub record EditCall (m bytes : List ℕ) (r : Reply) (n : List ℕ) : Type 0 where
@@ -49,7 +49,7 @@ pub record ScriptCall (m : List ℕ) (room : ℕ) (bytes : List ℕ) (code : ℕ
   pub ran : Ran
   pub called : Scripted bytes m n scratch scratch_after out out_after ran
   pub room_is : room ≡ length out / 3
-  pub code_is : code ≡ ran.code
+  pub code_is : code ≡ code_of ran.end
   pub answers_are : rs ≡ replies_in ran.count out_after
 
 -- a list of calls from the memory m on, each given the memory as the last one left it: their answers, and the memory after them

@@ -8,8 +8,7 @@ use Rattle.seqs.specs.Seqs.{count}
 use Rattle.seqs.specs.Split.{split}
 use Rattle.seqs.proofs.Parts.{rest_is}
 use Rattle.edit.specs.Record.{Edit}
-use Rattle.edit.specs.Answer.{numbers_of}
-use Rattle.edit.specs.declared.Answer.{Answer}
+use Rattle.edit.specs.Answer.{Answer, numbers_of}
 use Rattle.places.specs.Store.{Kind, Role, value_uses, block_uses, Thing, Thing-dec, Fit}
 use Rattle.places.specs.Hist.{meaning}
 use Rattle.places.specs.Parts.{store}

@@ -1,48 +1,57 @@
 // The check of one lent buffer: each part by itself, then what the parts say of each other.
 #![tactic(auto)]
 
+ghost use Rattle.std.specs.Prelude.{◌≡◌};
 ghost use Rattle.seqs.specs.Seqs.{Says};
 ghost use Rattle.places.specs.Store.{Sound};
+ghost use Rattle.context.specs.Kinds.{kind_of, fam_of};
+ghost use Rattle.context.specs.Layout.{nn_of};
 ghost use Rattle.context.specs.Memory.{layout_of, state_of, Well, SoundStore};
-ghost use Rattle.sound.specs.Crossing.{UsesCross, ValsCross, NestCross};
+ghost use Rattle.sound.specs.Crossing.{BirthsOf, RowsOf, UsesCross, ValsCross, NestCross};
 
-use context::Layout;
+use context::{Family, Kind, Layout};
+use sound_parts::{Births, Nest, Rows};
+
+// The order and the stamps of a kind: the first words of its table.
+fn births<'a>(m: &'a [u32], l: Layout, k: Kind) -> Births<'a>
+    requires { Well l m.now }
+    ensures { BirthsOf l (kind_of k) m.now result }
+{
+    let t = context::table_span(l, k);
+    let end = t.at + (2 + t.places + t.places);
+    Births {
+        words: &m[t.at..end],
+        places: t.places,
+    }
+}
+
+// The lists of a family, whose nodes are given.
+fn rows<'a>(m: &'a [u32], l: Layout, f: Family, nodes: Births<'a>) -> Rows<'a>
+    requires well { Well l m.now }
+    requires sized { nodes.places ≡ nn_of l (fam_of f) }
+    ensures lists { RowsOf l (fam_of f) m.now result }
+    ensures nodes { (result.nodes.places ≡ nodes.entry.places) × (result.nodes.words.now ≡ nodes.entry.words.now) }
+{
+    let s = context::family_span(l, f);
+    Rows {
+        words: &m[s.at..s.end],
+        lists: s.lists,
+        nodes,
+    }
+}
 
 // Whether uses, their slots and their definitions fit together.
 fn cross_uses(m: &[u32], l: Layout) -> bool
     requires { Well l m.now }
     ensures { Says result (UsesCross l m.now) }
 {
-    let o = context::table_span(l, 0);
-    let ao = o.at;
-    let eo = ao + (2 + o.nc + o.nc);
-    let b = context::table_span(l, 1);
-    let ab = b.at;
-    let eb = ab + (2 + b.nc + b.nc);
-    let v = context::table_span(l, 3);
-    let av = v.at;
-    let ev = av + (2 + v.nc + v.nc);
-    let u = context::table_span(l, 4);
-    let au = u.at;
-    let eu = au + (2 + u.nc + u.nc);
-    let w = context::family_span(l, 0);
-    let aw = w.at;
-    let ew = aw + 2 * w.nc + 3 * w.nn;
-    let d = context::family_span(l, 1);
-    let ad = d.at;
-    let ed = ad + 2 * d.nc + 3 * d.nn;
-    sound_parts::check_uses(
-        &m[ao..eo],
-        &m[ab..eb],
-        &m[av..ev],
-        &m[au..eu],
-        &m[aw..ew],
-        &m[ad..ed],
-        o.nc,
-        b.nc,
-        v.nc,
-        u.nc,
-    )
+    let ops = births(m, l, Kind::Operation);
+    let blocks = births(m, l, Kind::Block);
+    let values = births(m, l, Kind::Value);
+    let uses = births(m, l, Kind::Use);
+    let slots = rows(m, l, Family::Slots, uses);
+    let sets = rows(m, l, Family::UseSets, uses);
+    sound_parts::check_uses(&ops, &blocks, &values, &slots, &sets)
 }
 
 // Whether values and their owners do.
@@ -50,27 +59,10 @@ fn cross_values(m: &[u32], l: Layout) -> bool
     requires { Well l m.now }
     ensures { Says result (ValsCross l m.now) }
 {
-    let o = context::table_span(l, 0);
-    let ao = o.at;
-    let eo = ao + (2 + o.nc + o.nc);
-    let b = context::table_span(l, 1);
-    let ab = b.at;
-    let eb = ab + (2 + b.nc + b.nc);
-    let v = context::table_span(l, 3);
-    let av = v.at;
-    let ev = av + (2 + v.nc + v.nc);
-    let f = context::family_span(l, 2);
-    let af = f.at;
-    let ef = af + 2 * f.nc + 3 * f.nn;
-    sound_parts::check_values(
-        &m[ao..eo],
-        &m[ab..eb],
-        &m[av..ev],
-        &m[af..ef],
-        o.nc,
-        b.nc,
-        v.nc,
-    )
+    let ops = births(m, l, Kind::Operation);
+    let blocks = births(m, l, Kind::Block);
+    let values = rows(m, l, Family::Values, births(m, l, Kind::Value));
+    sound_parts::check_values(&ops, &blocks, &values)
 }
 
 // Whether operations, regions and blocks do, the flags are at most 3 and nothing lies inside itself.
@@ -78,40 +70,18 @@ fn cross_nest(m: &[u32], l: Layout) -> bool
     requires { Well l m.now }
     ensures { Says result (NestCross l m.now) }
 {
-    let n = context::live_count(m, l, 0);
-    let o = context::table_span(l, 0);
-    let ao = o.at;
-    let eo = ao + (2 + o.nc + o.nc);
-    let b = context::table_span(l, 1);
-    let ab = b.at;
-    let eb = ab + (2 + b.nc + b.nc);
-    let r = context::table_span(l, 2);
-    let ar = r.at;
-    let er = ar + (2 + r.nc + r.nc);
-    let f = context::family_span(l, 3);
-    let af = f.at;
-    let ef = af + 2 * f.nc + 3 * f.nn;
-    let g = context::family_span(l, 4);
-    let ag = g.at;
-    let eg = ag + 2 * g.nc + 3 * g.nn;
-    let h = context::family_span(l, 5);
-    let ah = h.at;
-    let eh = ah + 2 * h.nc + 3 * h.nn;
+    let ops = births(m, l, Kind::Operation);
+    let blocks = births(m, l, Kind::Block);
+    let regions = births(m, l, Kind::Region);
+    let nest = Nest {
+        ops: rows(m, l, Family::Operations, ops),
+        blocks: rows(m, l, Family::Blocks, blocks),
+        regions: rows(m, l, Family::Regions, regions),
+    };
     let at = context::flags_at(l);
-    let et = at + o.nc;
-    sound_parts::check_nest(
-        &m[ao..eo],
-        &m[ab..eb],
-        &m[ar..er],
-        &m[ag..eg],
-        &m[ah..eh],
-        &m[af..ef],
-        &m[at..et],
-        o.nc,
-        b.nc,
-        r.nc,
-        n,
-    )
+    let end = at + ops.places;
+    let alive = context::live_count(m, l, Kind::Operation);
+    sound_parts::check_nest(&nest, &m[at..end], alive)
 }
 
 // Whether the parts of a buffer, each well formed, are a sound store.
@@ -119,15 +89,7 @@ fn check_crossing(m: &[u32], l: Layout) -> bool
     requires { Well l m.now }
     ensures { Says result (Sound (state_of l m.now)) }
 {
-    let u = cross_uses(m, l);
-    if !u {
-        return false;
-    }
-    let v = cross_values(m, l);
-    if !v {
-        return false;
-    }
-    cross_nest(m, l)
+    cross_uses(m, l) && cross_values(m, l) && cross_nest(m, l)
 }
 
 // Whether a lent buffer is a sound store, with the capacities of its header. For a buffer of any length and contents.
@@ -138,9 +100,5 @@ pub fn check(m: &[u32]) -> bool
         return false;
     }
     let l = context::layout_of(m);
-    let w = context::check_parts(m, l);
-    if !w {
-        return false;
-    }
-    check_crossing(m, l)
+    context::check_parts(m, l) && check_crossing(m, l)
 }

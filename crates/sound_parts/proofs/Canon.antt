@@ -7,12 +7,17 @@ use native.Mathlib.Omega.{arith}
 use Prim.Native.Nat.{ℕ, zero, suc, ◌+◌, ◌-◌, ◌*◌, ◌<◌}
 use lib.ListN.{length, get_or}
 use lib.Seq.{ext_get_or}
+use Rattle.std.specs.Prelude.{Option}
 use Rattle.places.specs.Store.{Fam}
-use Rattle.linked_list.specs.Links.{at, Links}
+use Rattle.linked_list.specs.Links.{at, decoded, Links}
 use Rattle.linked_list.proofs.Laws.{at_end}
-use Rattle.linked_list.proofs.Getters.{cells, tail_is}
+use Rattle.linked_list.proofs.Getters.{cells, stored, tail_cell}
 use Rattle.sound_parts.specs.Cross.{conts, Holder, Crossed}
 use Rattle.sound_parts.specs.Memory.{Mem, row_at, cells_of, Formed}
+
+-- two numbers that mean the same are the same
+same : {a b : ℕ} {r : Option ℕ} → decoded a ≡ r → decoded b ≡ r → a ≡ b
+same e f = sym (stored (sym e)) ∙ stored (sym f)
 
 module _ (nc nn : ℕ) (s s' : List ℕ) (ls : List (List ℕ)) (K : Links nc nn s ls) (K' : Links nc nn s' ls) where
   moved : (i j : ℕ) → j ≡ i → get_or s j 0 ≡ get_or s' j 0 → get_or s i 0 ≡ get_or s' i 0
@@ -23,12 +28,12 @@ module _ (nc nn : ℕ) (s s' : List ℕ) (ls : List (List ℕ)) (K : Links nc nn
       by_cases (dec_lt i nc)
       (λ a. (K.row i a).next zero (omega arith) ∙ sym ((K'.row i a).next zero (omega arith)))
       (λ a. by_cases (dec_lt i (2 * nc))
-      (λ b. moved i (nc + (i - nc)) (omega arith) (tail_is (K.row (i - nc) (omega arith)) ∙ sym (tail_is (K'.row (i - nc) (omega arith)))))
+      (λ b. moved i (nc + (i - nc)) (omega arith) (tail_cell (K.row (i - nc) (omega arith)) ∙ sym (tail_cell (K'.row (i - nc) (omega arith)))))
       (λ b. by_cases (dec_lt i (2 * nc + nn))
-      (λ d. moved i (2 * nc + (i - 2 * nc)) (omega arith) ((cells K (i - 2 * nc) (omega arith)).next ∙ sym (cells K' (i - 2 * nc) (omega arith)).next))
+      (λ d. moved i (2 * nc + (i - 2 * nc)) (omega arith) (same (cells K (i - 2 * nc) (omega arith)).next (cells K' (i - 2 * nc) (omega arith)).next))
       (λ d. by_cases (dec_lt i (2 * nc + 2 * nn))
-      (λ e. moved i (2 * nc + nn + (i - (2 * nc + nn))) (omega arith) ((cells K (i - (2 * nc + nn)) (omega arith)).prev ∙ sym (cells K' (i - (2 * nc + nn)) (omega arith)).prev))
-      (λ e. let z : length s ≡ 2 * nc + 3 * nn = K.size in moved i (2 * nc + 2 * nn + (i - (2 * nc + 2 * nn))) (omega arith) ((cells K (i - (2 * nc + 2 * nn)) (omega arith)).cont ∙ sym (cells K' (i - (2 * nc + 2 * nn)) (omega arith)).cont)))))
+      (λ e. moved i (2 * nc + nn + (i - (2 * nc + nn))) (omega arith) (same (cells K (i - (2 * nc + nn)) (omega arith)).prev (cells K' (i - (2 * nc + nn)) (omega arith)).prev))
+      (λ e. let z : length s ≡ 2 * nc + 3 * nn = K.size in moved i (2 * nc + 2 * nn + (i - (2 * nc + 2 * nn))) (omega arith) (same (cells K (i - (2 * nc + 2 * nn)) (omega arith)).cont (cells K' (i - (2 * nc + 2 * nn)) (omega arith)).cont)))))
 
   pub links_canonical : s ≡ s'
   links_canonical = ext_get_or 0 s s' (K.size ∙ sym K'.size) cell

@@ -22,7 +22,7 @@ module _ (o b r v u : ℕ) (to tb tr tv tu ss su sv sr so sb fl ty : List ℕ) w
 
   module _ (W : Formed m) where
     -- the use q in the list k of slots
-    use_in : Slots o b v u to tu ss su → (q : ℕ) → q < u → (k : ℕ) → get_or ss (home (2 * o) u q) 0 ≡ suc k → UseAt o b v u to tu su k q
+    use_in : Slots o v (v + b) u to tu ss su → (q : ℕ) → q < u → (k : ℕ) → get_or ss (home (2 * o) u q) 0 ≡ suc k → UseAt o v (v + b) u to tu su k q
     use_in S q h k e = let Z : Seat (2 * o) u ss (lists (2 * o) u ss) k q = seat (W.links slots) k q h e in (S k Z.c<).uses Z.index q Z.there
 
     pub crossed_of : UsesOk o b v u to tb tv tu ss su → ValsOk o b v to tb tv sv → NestOk o b r to tb tr so sb sr fl → Crossed (cells_of m)
@@ -33,7 +33,7 @@ module _ (o b r v u : ℕ) (to tb tr tv tu ss su sv sr so sb fl ty : List ℕ) w
           must_set = λ q h l. let w : (k : ℕ) × (get_or ss (home (2 * o) u q) 0 ≡ suc k) = some_code (get_or ss (home (2 * o) u q) 0) (U.must q h l) in (use_in U.slots q h w.0 w.1).held;
           must_val = G.must;
           must_reg = N.regions.must;
-          fit = λ q h k j e d. let A : UseAt o b v u to tu su k q = use_in U.slots q h k e in (λ z. omega (arith, A.value z), λ z. omega (arith, A.block z));
+          fit = λ q h k j e d. let A : UseAt o v (v + b) u to tu su k q = use_in U.slots q h k e in (λ z. omega (arith, A.value z), λ z. omega (arith, A.block z));
           short_slots = λ c h. (U.slots c h).short;
           short_vals = G.short;
           short_regs = N.regions.short;
@@ -42,7 +42,7 @@ module _ (o b r v u : ℕ) (to tb tr tv tu ss su sv sr so sb fl ty : List ℕ) w
         }
       where
         nodes : (f : Fam) (q : ℕ) → q < (cells_of m).cap (node_in f) → Node (cells_of m) f q
-        nodes slots q h k e = let A : UseAt o b v u to tu su k q = use_in U.slots q h k e in (A.alive, A.holder)
+        nodes slots q h k e = let A : UseAt o v (v + b) u to tu su k q = use_in U.slots q h k e in (A.alive, A.holder)
         nodes use_sets q h k e = U.sets q h k e
         nodes vals q h k e = G.node q h k e
         nodes regs q h k e = N.regions.node q h k e
@@ -50,10 +50,10 @@ module _ (o b r v u : ℕ) (to tb tr tv tu ss su sv sr so sb fl ty : List ℕ) w
         nodes blocks_in q h k e = N.blocks q h k e
 
     module _ (X : Crossed (cells_of m)) where
-      slots_of : (c : ℕ) → c < 2 * o → SlotsAt o b v u to tu ss su c
+      slots_of : (c : ℕ) → c < 2 * o → SlotsAt o v (v + b) u to tu ss su c
       slots_of c h = record { short = X.short_slots c h; uses = uses }
         where
-          uses : (i x : ℕ) → at (row (2 * o) u ss c) i ≡ suc x → UseAt o b v u to tu su c x
+          uses : (i x : ℕ) → at (row (2 * o) u ss c) i ≡ suc x → UseAt o v (v + b) u to tu su c x
           uses i x e =
               let w : (x < u) × (get_or ss (home (2 * o) u x) 0 ≡ suc c) = ((W.links slots).row c h).own i x e in
               let n : (0 < (cells_of m).stamp usg x) × (0 < (cells_of m).stamp op (c / 2)) = X.node slots x w.0 c w.1 in

@@ -1,493 +1,270 @@
 // The check of a whole store, over its parts.
 #![tactic(auto)]
 
-ghost use Rattle.std.specs.Prelude.{◌≡◌, ◌+◌, ◌*◌, ◌≤◌, ◌<◌, length, get_or};
-ghost use Rattle.table.specs.Table.{Says, Shape};
-ghost use Rattle.linked_list.specs.Links.{Sizes, Linked, home};
-ghost use Rattle.sound_parts.specs.Tests.{DirectAt, Direct, ForkAt, Fork, MustAt, Must, Short, FlagAt, Flags, UseAt, Slots, climb, ClimbAt, Climbs, Nest, UsesIn, UsesOk, ValsIn, ValsOk, NestIn, RegionsOk, NestOk};
+ghost use Rattle.std.specs.Prelude.{◌≡◌, ◌↔◌, ℕ, ◌+◌, ◌*◌, ◌≤◌, ◌<◌, IsTrue, length, get_or, slice_get};
+ghost use Rattle.seqs.specs.Seqs.{Says};
+ghost use Rattle.table.specs.Table.{Shape, stamp, count};
+ghost use Rattle.linked_list.specs.Links.{Linked, code, home, lists, row, row_of, next_in};
+ghost use Rattle.sound_parts.specs.Tests.{Sized, LivesIn, HomesFound, Direct, Must, Short, Flags, UseAt, Slots, Around, climb, Outside, Climbs, UsesOk, ValsOk, RegionsOk, NestOk};
 
-fn wide(x: u32) -> usize
-    ensures { result ≡ x }
-{
-    x as usize
+use linked_list::Lists;
+
+// The most nodes of an ordered list.
+const MOST_LISTED: usize = 64;
+
+// The order and the stamps of the things of a kind, by place.
+#[derive(Clone, Copy)]
+pub struct Births<'a> {
+    pub words: &'a [u32],
+    pub places: usize,
+    pub ghost shape: { Shape places words.now },
 }
 
-// The container of a node, as stored, 0 for none: where the links agree it is one of the nc.
-fn home_at(s: &[u32], nc: usize, nn: usize, q: usize) -> usize
-    requires sizes { Sizes nc nn }
-    requires linked { Linked nc nn s.now }
-    requires q_lt_nn { q < nn }
-    ensures { (result ≡ get_or s.now (home nc nn q) 0) × (result ≤ nc) }
-{
-    linked_list::get_home(s, nc, nn, q)
+impl<'a> Births<'a> {
+    // Whether a thing lives at the place p.
+    fn is_live(&self, p: usize) -> bool
+        requires p_lt_places { p < self.now.places }
+        ensures { IsTrue result ↔ (0 < stamp self.now.places self.now.words.now p) }
+    {
+        table::stamp_at(self.words, self.places, p) != 0
+    }
 }
 
-// Whether a node in a list lives, and so does what has the list: container k is the thing at place k.
-fn direct_at(s: &[u32], nc: usize, nn: usize, tn: &[u32], th: &[u32], q: usize) -> bool
-    requires sizes { Sizes nc nn × Linked nc nn s.now }
-    requires shape { Shape nn tn.now × Shape nc th.now }
-    requires q_lt_nn { q < nn }
-    ensures { Says result (DirectAt nc nn s.now tn.now th.now q) }
-{
-    let h = home_at(s, nc, nn, q);
-    if h == 0 {
-        return true;
-    }
-    let a = table::stamp_at(tn, nn, q);
-    if a == 0 {
-        return false;
-    }
-    let b = table::stamp_at(th, nc, h - 1);
-    if b == 0 {
-        return false;
-    }
-    true
+// The lists of a family, and the things that are its nodes.
+#[derive(Clone, Copy)]
+pub struct Rows<'a> {
+    pub words: &'a [u32],
+    pub lists: Lists,
+    pub nodes: Births<'a>,
+    pub ghost linked: { ∥ Linked lists.nc lists.nn words.now ∥₁ },
+    pub ghost sized: { lists.nn ≡ nodes.places },
 }
 
-fn check_direct(s: &[u32], nc: usize, nn: usize, tn: &[u32], th: &[u32]) -> bool
-    requires sizes { Sizes nc nn × Linked nc nn s.now }
-    requires shape { Shape nn tn.now × Shape nc th.now }
-    ensures { Says result (Direct nc nn s.now tn.now th.now) }
-{
-    let mut q = 0;
-    while q < nn {
-        let k = direct_at(s, nc, nn, tn, th, q);
-        if !k {
+impl<'a> Rows<'a> {
+    // The container whose list has the node q.
+    fn home(&self, q: usize) -> Option<usize>
+        requires q_lt_nn { q < self.now.lists.nn }
+        ensures { (code result ≡ get_or self.now.words.now (home self.now.lists.nc self.now.lists.nn q) 0) × (code result ≤ self.now.lists.nc) }
+    {
+        self.lists.get_container(self.words, q)
+    }
+
+    // The first node of the list c.
+    fn first(&self, c: usize) -> Option<usize>
+        requires c_lt_nc { c < self.now.lists.nc }
+        ensures { result ≡ slice_get (row self.now.lists.nc self.now.lists.nn self.now.words.now c) 0 }
+    {
+        self.lists.get_head(self.words, c)
+    }
+
+    // The node after q in its list.
+    fn next(&self, q: usize) -> Option<usize>
+        requires q_lt_nn { q < self.now.lists.nn }
+        ensures { result ≡ next_in q (row_of q (lists self.now.lists.nc self.now.lists.nn self.now.words.now)) }
+    {
+        self.lists.get_next(self.words, q)
+    }
+
+    // How long the list c is.
+    fn count(&self, c: usize) -> usize
+        requires c_lt_nc { c < self.now.lists.nc }
+        ensures { result ≡ length (row self.now.lists.nc self.now.lists.nn self.now.words.now c) }
+    {
+        self.lists.count(self.words, c)
+    }
+}
+
+// The three families of the nest: the operations of blocks, the blocks of regions, the regions of operations.
+#[derive(Clone, Copy)]
+pub struct Nest<'a> {
+    pub ops: Rows<'a>,
+    pub blocks: Rows<'a>,
+    pub regions: Rows<'a>,
+    pub ghost in_blocks: { ops.lists.nc ≡ blocks.nodes.places },
+    pub ghost in_regions: { blocks.lists.nc ≡ regions.nodes.places },
+    pub ghost in_ops: { regions.lists.nc ≡ ops.nodes.places },
+}
+
+impl<'a> Nest<'a> {
+    // The operation around the operation p: its block's region's.
+    fn around(&self, p: usize) -> Option<usize>
+        requires p_lt_o { p < self.now.ops.nodes.places }
+        ensures within { code result ≤ self.now.ops.nodes.places }
+        ensures around { Around self.now.ops.nodes.places self.now.blocks.nodes.places self.now.regions.nodes.places self.now.ops.words.now self.now.blocks.words.now self.now.regions.words.now p (code result) }
+    {
+        let b = self.ops.home(p)?;
+        let r = self.blocks.home(b)?;
+        self.regions.home(r)
+    }
+
+    // Whether climbing from the operation p, from operation to operation around it, ends within n of them.
+    fn climbs(&self, n: usize, p: usize) -> bool
+        requires p_lt_o { p < self.now.ops.nodes.places }
+        ensures { result ≡ climb self.now.ops.nodes.places self.now.blocks.nodes.places self.now.regions.nodes.places self.now.ops.words.now self.now.blocks.words.now self.now.regions.words.now n p }
+    {
+        if n == 0 {
             return false;
         }
-        q += 1;
-    }
-    true
-}
-
-// The same where the first na containers are those of one kind, and the next nb of another.
-fn fork_at(
-    s: &[u32],
-    na: usize,
-    nb: usize,
-    nn: usize,
-    tn: &[u32],
-    ta: &[u32],
-    tb: &[u32],
-    q: usize,
-) -> bool
-    requires sizes { Sizes (na + nb) nn × Linked (na + nb) nn s.now }
-    requires shape { Shape nn tn.now × (Shape na ta.now × Shape nb tb.now) }
-    requires q_lt_nn { q < nn }
-    ensures { Says result (ForkAt na nb nn s.now tn.now ta.now tb.now q) }
-{
-    let h = home_at(s, na + nb, nn, q);
-    if h == 0 {
-        return true;
-    }
-    let a = table::stamp_at(tn, nn, q);
-    if a == 0 {
-        return false;
-    }
-    if h - 1 < na {
-        let b = table::stamp_at(ta, na, h - 1);
-        if b == 0 {
-            return false;
+        match self.around(p) {
+            None => true,
+            Some(q) => self.climbs(n - 1, q),
         }
-        return true;
     }
-    let d = table::stamp_at(tb, nb, h - 1 - na);
-    if d == 0 {
-        return false;
+
+    // Whether the operation p is outside of itself: one without a region has nothing inside.
+    fn is_outside_itself(&self, n: usize, p: usize) -> bool
+        requires p_lt_o { p < self.now.ops.nodes.places }
+        ensures { Says result (Outside self.now.ops.nodes.places self.now.blocks.nodes.places self.now.regions.nodes.places self.now.ops.words.now self.now.blocks.words.now self.now.regions.words.now n p) }
+    {
+        self.regions.first(p).is_none() || self.climbs(n, p)
     }
-    true
 }
 
-fn check_fork(
-    s: &[u32],
-    na: usize,
-    nb: usize,
-    nn: usize,
-    tn: &[u32],
-    ta: &[u32],
-    tb: &[u32],
-) -> bool
-    requires sizes { Sizes (na + nb) nn × Linked (na + nb) nn s.now }
-    requires shape { Shape nn tn.now × (Shape na ta.now × Shape nb tb.now) }
-    ensures { Says result (Fork na nb nn s.now tn.now ta.now tb.now) }
+// Whether the thing k lives, where the first are those of one kind, and the others those of another.
+fn lives_in(first: &Births, second: &Births, k: usize) -> bool
+    requires k_bound { k < first.now.places + second.now.places }
+    ensures { Says result (LivesIn first.now.places second.now.places first.now.words.now second.now.words.now k) }
 {
-    let mut q = 0;
-    while q < nn {
-        let k = fork_at(s, na, nb, nn, tn, ta, tb, q);
-        if !k {
-            return false;
+    if k < first.places {
+        first.is_live(k)
+    } else {
+        second.is_live(k - first.places)
+    }
+}
+
+// Whether each node in a list lives, and so does what has the list: `has` says which of those do.
+fn check_homes<H: Fn(usize) -> bool>(rows: &Rows, has: H) -> bool
+    requires { (k : ℕ) → k < rows.now.lists.nc → H.pre has k }
+    ensures { HomesFound rows.now.lists.nc rows.now.nodes.places rows.now.words.now rows.now.nodes.words.now (H.post has) result }
+{
+    for q in 0..rows.nodes.places {
+        if let Some(k) = rows.home(q) {
+            if !rows.nodes.is_live(q) || !has(k) {
+                return false;
+            }
         }
-        q += 1;
     }
     true
 }
 
-// Whether a live node stands in a list.
-fn must_at(s: &[u32], nc: usize, nn: usize, t: &[u32], q: usize) -> bool
-    requires sizes { Sizes nc nn × Linked nc nn s.now }
-    requires shape { Shape nn t.now }
-    requires q_lt_nn { q < nn }
-    ensures { Says result (MustAt nc nn s.now t.now q) }
+// Whether each live node stands in a list.
+fn check_must(rows: &Rows) -> bool
+    ensures { Says result (Must rows.now.lists.nc rows.now.nodes.places rows.now.words.now rows.now.nodes.words.now) }
 {
-    let a = table::stamp_at(t, nn, q);
-    if a == 0 {
-        return true;
-    }
-    let h = home_at(s, nc, nn, q);
-    if h == 0 {
-        return false;
-    }
-    true
-}
-
-fn check_must(s: &[u32], nc: usize, nn: usize, t: &[u32]) -> bool
-    requires sizes { Sizes nc nn × Linked nc nn s.now }
-    requires shape { Shape nn t.now }
-    ensures { Says result (Must nc nn s.now t.now) }
-{
-    let mut q = 0;
-    while q < nn {
-        let k = must_at(s, nc, nn, t, q);
-        if !k {
-            return false;
-        }
-        q += 1;
-    }
-    true
+    (0..rows.nodes.places).all(|q| !rows.nodes.is_live(q) || rows.home(q).is_some())
 }
 
 // Whether no list has more than 64 nodes.
-fn check_short(s: &[u32], nc: usize, nn: usize) -> bool
-    requires { Sizes nc nn × Linked nc nn s.now }
-    ensures { Says result (Short nc nn s.now) }
+fn check_short(rows: &Rows) -> bool
+    ensures { Says result (Short rows.now.lists.nc rows.now.lists.nn rows.now.words.now) }
 {
-    let mut c = 0;
-    while c < nc {
-        let k = linked_list::count(s, nc, nn, c);
-        if k > 64 {
-            return false;
-        }
-        c += 1;
-    }
-    true
+    (0..rows.lists.nc).all(|c| rows.count(c) <= MOST_LISTED)
 }
 
-// Whether a live operation's flags are at most 3.
-fn flag_at(t: &[u32], n: usize, flags: &[u32], p: usize) -> bool
-    requires shape { Shape n t.now × (length flags.now ≡ n) }
-    requires p_lt_n { p < n }
-    ensures { Says result (FlagAt n t.now flags.now p) }
+// Whether both.
+fn check_listed(rows: &Rows) -> bool
+    ensures { Says result (Must rows.now.lists.nc rows.now.nodes.places rows.now.words.now rows.now.nodes.words.now × Short rows.now.lists.nc rows.now.lists.nn rows.now.words.now) }
 {
-    let a = table::stamp_at(t, n, p);
-    if a == 0 {
-        return true;
-    }
-    if flags[p] > 3 {
-        return false;
-    }
-    true
+    check_must(rows) && check_short(rows)
 }
 
-fn check_flags(t: &[u32], n: usize, flags: &[u32]) -> bool
-    requires { Shape n t.now × (length flags.now ≡ n) }
-    ensures { Says result (Flags n t.now flags.now) }
+// Whether the flags of each live operation are at most 3.
+fn check_flags(ops: &Births, flags: &[u32]) -> bool
+    requires { length flags.now ≡ ops.now.places }
+    ensures { Says result (Flags ops.now.places ops.now.words.now flags.now) }
 {
-    let mut p = 0;
-    while p < n {
-        let k = flag_at(t, n, flags, p);
-        if !k {
-            return false;
-        }
-        p += 1;
-    }
-    true
+    (0..ops.places).all(|p| !ops.is_live(p) || flags[p] <= 3)
 }
 
-// Whether the use x of the list c of slots lives, and its operation, and is held by a definition of the right kind.
-fn use_at(
-    to: &[u32],
-    o: usize,
-    tu: &[u32],
-    u: usize,
-    sets: &[u32],
-    v: usize,
-    b: usize,
-    c: usize,
-    x: usize,
-) -> bool
-    requires shape { Shape o to.now × Shape u tu.now }
-    requires sizes { Sizes (v + b) u × Linked (v + b) u sets.now }
-    requires c_bound { (c < 2 * o) × (x < u) }
-    ensures { Says result (UseAt o b v u to.now tu.now sets.now c x) }
+// Whether the use x of the list c of slots lives, and its operation, and is held by a definition of the right kind: the first are
+// values, and the others blocks.
+fn use_at(ops: &Births, values: usize, sets: &Rows, c: usize, x: usize) -> bool
+    requires { (c < 2 * ops.now.places) × (x < sets.now.nodes.places) }
+    ensures { Says result (UseAt ops.now.places values sets.now.lists.nc sets.now.nodes.places ops.now.words.now sets.now.nodes.words.now sets.now.words.now c x) }
 {
-    let a = table::stamp_at(tu, u, x);
-    if a == 0 {
-        return false;
-    }
-    let d = table::stamp_at(to, o, c / 2);
-    if d == 0 {
-        return false;
-    }
-    let h = home_at(sets, v + b, u, x);
-    if h == 0 {
-        return false;
-    }
-    if c % 2 == 0 {
-        if h > v {
-            return false;
+    sets.nodes.is_live(x)
+        && ops.is_live(c / 2)
+        && match sets.home(x) {
+            None => false,
+            Some(d) => if c % 2 == 0 { d < values } else { d >= values },
         }
-        return true;
-    }
-    if h <= v {
-        return false;
-    }
-    true
 }
 
 // Operations, their two lists of slots, and the uses there: the first fault found ends the search.
-fn check_slots(
-    to: &[u32],
-    o: usize,
-    tu: &[u32],
-    u: usize,
-    slots: &[u32],
-    sets: &[u32],
-    v: usize,
-    b: usize,
-) -> bool
-    requires shape { Shape o to.now × Shape u tu.now }
-    requires sizes { Sizes (2 * o) u × Linked (2 * o) u slots.now }
-    requires sizes_2 { Sizes (v + b) u × Linked (v + b) u sets.now }
-    ensures { Says result (Slots o b v u to.now tu.now slots.now sets.now) }
+fn check_slots(ops: &Births, values: usize, slots: &Rows, sets: &Rows) -> bool
+    requires slots_sized { Sized slots.now.lists (2 * ops.now.places) sets.now.nodes.places }
+    ensures { Says result (Slots ops.now.places values sets.now.lists.nc sets.now.nodes.places ops.now.words.now sets.now.nodes.words.now slots.now.words.now sets.now.words.now) }
 {
     let mut ok = true;
-    let mut p = 0;
-    'search: while p < o {
-        let mut c = 2 * p;
-        while c < 2 * p + 2 {
-            let mut k = linked_list::get_head(slots, 2 * o, u, c);
-            let mut j: usize = 0;
-            while k != 0 {
-                let x = wide(k) - 1;
-                if j >= 64 {
+    'search: for p in 0..ops.places {
+        for c in 2 * p..2 * p + 2 {
+            let mut next = slots.first(c);
+            // Kept (point 3): j counts the links passed, and document 01 asks for this loop, left at the first broken link.
+            let mut j = 0;
+            while let Some(x) = next {
+                if j >= MOST_LISTED || !use_at(ops, values, sets, c, x) {
                     ok = false;
                     break 'search;
                 }
-                let g = use_at(to, o, tu, u, sets, v, b, c, x);
-                if !g {
-                    ok = false;
-                    break 'search;
-                }
-                k = linked_list::get_next(slots, 2 * o, u, x);
+                next = slots.next(x);
                 j += 1;
             }
-            c += 1;
         }
-        p += 1;
     }
     ok
 }
 
-// Whether climbing from the operation p, from operation to operation around it, ends within n of them.
-fn climbs(
-    ops: &[u32],
-    blocks: &[u32],
-    regions: &[u32],
-    o: usize,
-    b: usize,
-    r: usize,
-    n: usize,
-    p: usize,
-) -> bool
-    requires nest { Nest o b r ops.now blocks.now regions.now }
-    requires p_lt_o { p < o }
-    ensures { result ≡ climb o b r ops.now blocks.now regions.now n p }
-{
-    if n == 0 {
-        return false;
-    }
-    let x = home_at(ops, b, o, p);
-    if x == 0 {
-        return true;
-    }
-    let y = home_at(blocks, r, b, x - 1);
-    if y == 0 {
-        return true;
-    }
-    let z = home_at(regions, o, r, y - 1);
-    if z == 0 {
-        return true;
-    }
-    climbs(ops, blocks, regions, o, b, r, n - 1, z - 1)
-}
-
-fn climb_at(
-    to: &[u32],
-    ops: &[u32],
-    blocks: &[u32],
-    regions: &[u32],
-    o: usize,
-    b: usize,
-    r: usize,
-    n: usize,
-    p: usize,
-) -> bool
-    requires shape { Shape o to.now × Nest o b r ops.now blocks.now regions.now }
-    requires p_lt_o { p < o }
-    ensures { Says result (ClimbAt o b r to.now ops.now blocks.now regions.now n p) }
-{
-    let a = table::stamp_at(to, o, p);
-    if a == 0 {
-        return true;
-    }
-    let first = linked_list::get_head(regions, o, r, p);
-    if first == 0 {
-        return true;
-    }
-    climbs(ops, blocks, regions, o, b, r, n, p)
-}
-
-fn check_climbs(
-    to: &[u32],
-    ops: &[u32],
-    blocks: &[u32],
-    regions: &[u32],
-    o: usize,
-    b: usize,
-    r: usize,
-    n: usize,
-) -> bool
-    requires { Shape o to.now × Nest o b r ops.now blocks.now regions.now }
-    ensures { Says result (Climbs o b r to.now ops.now blocks.now regions.now n) }
-{
-    let mut p = 0;
-    while p < o {
-        let k = climb_at(to, ops, blocks, regions, o, b, r, n, p);
-        if !k {
-            return false;
-        }
-        p += 1;
-    }
-    true
-}
-
 // The uses: each stands in one slot of a live operation and is held by one live definition, and no other is live or held.
-pub fn check_uses(
-    to: &[u32],
-    tb: &[u32],
-    tv: &[u32],
-    tu: &[u32],
-    slots: &[u32],
-    sets: &[u32],
-    o: usize,
-    b: usize,
-    v: usize,
-    u: usize,
-) -> bool
-    requires { UsesIn o b v u to.now tb.now tv.now tu.now slots.now sets.now }
-    ensures { Says result (UsesOk o b v u to.now tb.now tv.now tu.now slots.now sets.now) }
+pub fn check_uses(ops: &Births, blocks: &Births, values: &Births, slots: &Rows, sets: &Rows) -> bool
+    requires slots_sized { slots.now.lists.nc ≡ 2 * ops.now.places }
+    requires sets_sized { sets.now.lists.nc ≡ values.now.places + blocks.now.places }
+    requires same_uses { (slots.now.nodes.places ≡ sets.now.nodes.places) × (slots.now.nodes.words.now ≡ sets.now.nodes.words.now) }
+    ensures { Says result (UsesOk ops.now.places blocks.now.places values.now.places sets.now.nodes.places ops.now.words.now blocks.now.words.now values.now.words.now sets.now.nodes.words.now slots.now.words.now sets.now.words.now) }
 {
-    let x = check_slots(to, o, tu, u, slots, sets, v, b);
-    if !x {
-        return false;
-    }
-    let y = check_must(slots, 2 * o, u, tu);
-    if !y {
-        return false;
-    }
-    let z = check_fork(sets, v, b, u, tu, tv, tb);
-    if !z {
-        return false;
-    }
-    true
+    check_slots(ops, values.places, slots, sets)
+        && check_must(slots)
+        && check_homes(sets, |d| lives_in(values, blocks, d))
 }
 
 // The values: each is the result of a live operation or the argument of a live block.
-pub fn check_values(
-    to: &[u32],
-    tb: &[u32],
-    tv: &[u32],
-    vals: &[u32],
-    o: usize,
-    b: usize,
-    v: usize,
-) -> bool
-    requires { ValsIn o b v to.now tb.now tv.now vals.now }
-    ensures { Says result (ValsOk o b v to.now tb.now tv.now vals.now) }
+pub fn check_values(ops: &Births, blocks: &Births, values: &Rows) -> bool
+    requires values_sized { values.now.lists.nc ≡ ops.now.places + blocks.now.places }
+    ensures { Says result (ValsOk ops.now.places blocks.now.places values.now.nodes.places ops.now.words.now blocks.now.words.now values.now.nodes.words.now values.now.words.now) }
 {
-    let x = check_fork(vals, o, b, v, tv, to, tb);
-    if !x {
-        return false;
-    }
-    let y = check_must(vals, o + b, v, tv);
-    if !y {
-        return false;
-    }
-    let z = check_short(vals, o + b, v);
-    if !z {
-        return false;
-    }
-    true
+    check_homes(values, |k| lives_in(ops, blocks, k)) && check_listed(values)
 }
 
 // The regions: each stands in one list of one live operation, and no list has more than 64.
-fn check_regions(regions: &[u32], o: usize, r: usize, tr: &[u32], to: &[u32]) -> bool
-    requires shape { Shape o to.now × Shape r tr.now }
-    requires sizes { Sizes o r × Linked o r regions.now }
-    ensures { Says result (RegionsOk o r to.now tr.now regions.now) }
+fn check_regions(nest: &Nest) -> bool
+    ensures { Says result (RegionsOk nest.now.ops.nodes.places nest.now.regions.nodes.places nest.now.ops.nodes.words.now nest.now.regions.nodes.words.now nest.now.regions.words.now) }
 {
-    let x = check_direct(regions, o, r, tr, to);
-    if !x {
-        return false;
-    }
-    let y = check_must(regions, o, r, tr);
-    if !y {
-        return false;
-    }
-    let z = check_short(regions, o, r);
-    if !z {
-        return false;
-    }
-    true
+    check_homes(&nest.regions, |k| nest.ops.nodes.is_live(k)) && check_listed(&nest.regions)
+}
+
+// Whether the operations and the blocks in lists live, and so do the blocks and the regions that have these.
+fn check_placed(nest: &Nest) -> bool
+    ensures { Says result (Direct nest.now.blocks.nodes.places nest.now.ops.nodes.places nest.now.ops.words.now nest.now.ops.nodes.words.now nest.now.blocks.nodes.words.now × Direct nest.now.regions.nodes.places nest.now.blocks.nodes.places nest.now.blocks.words.now nest.now.blocks.nodes.words.now nest.now.regions.nodes.words.now) }
+{
+    check_homes(&nest.ops, |k| nest.blocks.nodes.is_live(k))
+        && check_homes(&nest.blocks, |k| nest.regions.nodes.is_live(k))
+}
+
+// Whether each live operation with a region is in no region of its own, however deep.
+fn check_climbs(nest: &Nest, n: usize) -> bool
+    ensures { Says result (Climbs nest.now.ops.nodes.places nest.now.blocks.nodes.places nest.now.regions.nodes.places nest.now.ops.nodes.words.now nest.now.ops.words.now nest.now.blocks.words.now nest.now.regions.words.now n) }
+{
+    (0..nest.ops.nodes.places).all(|p| !nest.ops.nodes.is_live(p) || nest.is_outside_itself(n, p))
 }
 
 // Operations, blocks and regions: only live things are linked, each region has its operation, and nothing lies inside itself. n is how
 // many operations live: a climb that does not end within as many meets one twice.
-pub fn check_nest(
-    to: &[u32],
-    tb: &[u32],
-    tr: &[u32],
-    ops: &[u32],
-    blocks: &[u32],
-    regions: &[u32],
-    flags: &[u32],
-    o: usize,
-    b: usize,
-    r: usize,
-    n: usize,
-) -> bool
-    requires { NestIn o b r n to.now tb.now tr.now ops.now blocks.now regions.now flags.now }
-    ensures { Says result (NestOk o b r to.now tb.now tr.now ops.now blocks.now regions.now flags.now) }
+pub fn check_nest(nest: &Nest, flags: &[u32], n: usize) -> bool
+    requires flags_len { length flags.now ≡ nest.now.ops.nodes.places }
+    requires alive { n ≡ count nest.now.ops.nodes.words.now }
+    ensures { Says result (NestOk nest.now.ops.nodes.places nest.now.blocks.nodes.places nest.now.regions.nodes.places nest.now.ops.nodes.words.now nest.now.blocks.nodes.words.now nest.now.regions.nodes.words.now nest.now.ops.words.now nest.now.blocks.words.now nest.now.regions.words.now flags.now) }
 {
-    let x1 = check_regions(regions, o, r, tr, to);
-    if !x1 {
-        return false;
-    }
-    let x2 = check_direct(ops, b, o, to, tb);
-    if !x2 {
-        return false;
-    }
-    let x3 = check_direct(blocks, r, b, tb, tr);
-    if !x3 {
-        return false;
-    }
-    let x4 = check_flags(to, o, flags);
-    if !x4 {
-        return false;
-    }
-    let x5 = check_climbs(to, ops, blocks, regions, o, b, r, n);
-    if !x5 {
-        return false;
-    }
-    true
+    check_regions(nest)
+        && check_placed(nest)
+        && check_flags(&nest.ops.nodes, flags)
+        && check_climbs(nest, n)
 }

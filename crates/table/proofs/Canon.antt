@@ -1,12 +1,7 @@
 -- A table's cells are a function of the next number and of the live things. Assumes nothing.
-use mathlib.Core.Path.{◌≡◌, refl, sym, ap, ◌∙◌}
-use mathlib.Core.Logic.{⊎_elim}
-use mathlib.Core.List.{List, [], ◌∷◌, ◌++◌}
-use Prim.Native.Nat.{ℕ, zero, suc, ◌+◌, ◌-◌, ◌<◌}
-use native.Mathlib.Nat.{eq-zero-or-pos}
-use native.Mathlib.Omega.{arith}
-use lib.ListN.{length, get_or, length-append, get_or-append}
-use lib.Seq.{get_or_at, ext_get_or}
+use Rattle.std.proofs.Common.{◌≡◌, refl, sym, ap, ◌∙◌, ⊎_elim, List, [], ◌∷◌, ◌++◌, ℕ, zero, suc, ◌+◌, ◌-◌, ◌<◌, eq-zero-or-pos, arith, length, get_or, length-append, ext_get_or}
+use lib.ListN.{get_or-append}
+use lib.Seq.{get_or_at}
 use Rattle.bits.proofs.Digits.{le_or_lt}
 use Rattle.bits.proofs.Lowest.{last_or}
 use Rattle.table.specs.Table.{Table, next, count, order, stamp, live, entry, tab}

@@ -1,22 +1,14 @@
 -- Laws of the definitions of specs/Table.antt. Assumes nothing.
-use mathlib.Core.Path.{◌≡◌, refl, sym, ap, ap₂, ◌∙◌, subst}
-use mathlib.Core.Bool.{Bool, true, false}
-use mathlib.Core.Logic.{◌⊎◌, inl, inr, ⊎_elim}
-use mathlib.Core.List.{List, [], ◌∷◌, ◌++◌, append-nil}
-use Prim.Native.Nat.{ℕ, zero, suc, ◌+◌, ◌≤◌, ◌<◌, suc-le-suc}
-use native.Mathlib.Nat.{eq-or-lt_of_le, le_of_suc-le-suc, not-suc-le-zero}
-use native.Mathlib.Omega.{arith}
+use Rattle.std.proofs.Common.{◌≡◌, refl, sym, ap, ap₂, ◌∙◌, subst, Bool, true, false, cond, ◌⊎◌, inl, inr, ⊎_elim, List, [], ◌∷◌, ◌++◌, append-nil, ℕ, zero, suc, ◌+◌, ◌≤◌, ◌<◌, suc-le-suc, eq-or-lt_of_le, le_of_suc-le-suc, not-suc-le-zero, arith, eq-eqb, ne_eqb, eqb, Option, Some, None}
 use native.Mathlib.Decide.{dec_lt}
-use borrow.Author.Tests.{eq-eqb, ne_eqb}
-use lib.Dec.{eqb}
 use lib.Arith.{lt_of_le-ne}
-use Rattle.table.specs.Table.{Table, Shape, Ordered, Placed, Rested, Rank, next, count, order, stamp, live, entry, tab, find_in, pick, without, keep}
-use Rattle.bits.specs.Map.{lowest, or_else}
+use Rattle.table.specs.Table.{Table, Shape, Ordered, Rank, count, order, stamp, live, entry, tab, find_in, without}
+use Rattle.bits.specs.Map.{lowest}
+use Rattle.std.specs.Option.{option_or}
 pub use Rattle.seqs.proofs.Says.{says_map, says_no, says_yes}
-use Rattle.bits.specs.declared.Found.{Found}
-use Rattle.bits.specs.declared.Found.TheVariants.{At, Nothing}
 use Rattle.bits.proofs.Lowest.{last_or, taken_all}
-use Rattle.bits.proofs.Digits.{le_or_lt, same?}
+use Rattle.std.proofs.lemmas.Bool.{cases_eq}
+use Rattle.bits.proofs.Digits.{le_or_lt}
 
 -- ---- tab
 pub tab_ext : (f g : ℕ → ℕ × ℕ) (m : ℕ) → ((i : ℕ) → i < m → f i ≡ g i) → tab f m ≡ tab g m
@@ -25,31 +17,31 @@ tab_ext f g zero h = refl
 tab_ext f g (suc m) h = ap₂ (λ (a : List (ℕ × ℕ)) (x : ℕ × ℕ). a ++ (x ∷ [])) (tab_ext f g m (λ i l. h i (omega arith))) (h m (omega arith))
 
 -- ---- findIn
-pub find_append : (a b : List (ℕ × ℕ)) (x : ℕ) → find_in (a ++ b) x ≡ or_else (find_in a x) (find_in b x)
+pub find_append : (a b : List (ℕ × ℕ)) (x : ℕ) → find_in (a ++ b) x ≡ option_or (find_in a x) (find_in b x)
 unfolding find_in
 find_append [] b x = refl
 find_append (e ∷ a) b x = go (eqb e.0 x) (find_append a b x)
   where
-    go : (q : Bool) → find_in (a ++ b) x ≡ or_else (find_in a x) (find_in b x) → pick q (At e.1) (find_in (a ++ b) x) ≡ or_else (pick q (At e.1) (find_in a x)) (find_in b x)
+    go : (q : Bool) → find_in (a ++ b) x ≡ option_or (find_in a x) (find_in b x) → cond q (Some e.1) (find_in (a ++ b) x) ≡ option_or (cond q (Some e.1) (find_in a x)) (find_in b x)
     go true r = refl
     go false r = r
 
-pub miss : (f : ℕ → ℕ × ℕ) (m x : ℕ) → ((i : ℕ) → i < m → (f i).0 ≡ x → ⊥) → find_in (tab f m) x ≡ Nothing
+pub miss : (f : ℕ → ℕ × ℕ) (m x : ℕ) → ((i : ℕ) → i < m → (f i).0 ≡ x → ⊥) → find_in (tab f m) x ≡ None
 unfolding tab find_in
 miss f zero x h = refl
 miss f (suc m) x h =
     find_append (tab f m) (f m ∷ []) x
-    ∙ ap₂ (λ (a : Found) (q : Bool). or_else a (pick q (At (f m).1) Nothing)) (miss f m x (λ i l. h i (omega arith))) (ne_eqb (f m).0 x (h m (omega arith)))
+    ∙ ap₂ (λ (a : Option ℕ) (q : Bool). option_or a (cond q (Some (f m).1) None)) (miss f m x (λ i l. h i (omega arith))) (ne_eqb (f m).0 x (h m (omega arith)))
 
-pub hit : (f : ℕ → ℕ × ℕ) (m k x : ℕ) → k < m → ((i : ℕ) → i < k → (f i).0 ≡ x → ⊥) → (f k).0 ≡ x → find_in (tab f m) x ≡ At (f k).1
+pub hit : (f : ℕ → ℕ × ℕ) (m k x : ℕ) → k < m → ((i : ℕ) → i < k → (f i).0 ≡ x → ⊥) → (f k).0 ≡ x → find_in (tab f m) x ≡ Some (f k).1
 unfolding tab find_in
 hit f zero k x l h e = absurd (not-suc-le-zero l)
 hit f (suc m) k x l h e =
     find_append (tab f m) (f m ∷ []) x
     ∙ ⊎_elim
-    (λ q. ap₂ (λ (a : Found) (b : Bool). or_else a (pick b (At (f m).1) Nothing)) (miss f m x (λ i l. h i (omega arith))) (eq-eqb (f m).0 x (ap (λ (j : ℕ). (f j).0) (sym q) ∙ e))
-    ∙ ap (λ (j : ℕ). At (f j).1) (sym q))
-    (λ q. ap (λ (a : Found). or_else a (find_in (f m ∷ []) x)) (hit f m k x q h e)) (last_or l)
+    (λ q. ap₂ (λ (a : Option ℕ) (b : Bool). option_or a (cond b (Some (f m).1) None)) (miss f m x (λ i l. h i (omega arith))) (eq-eqb (f m).0 x (ap (λ (j : ℕ). (f j).0) (sym q) ∙ e))
+    ∙ ap (λ (j : ℕ). Some (f j).1) (sym q))
+    (λ q. ap (λ (a : Option ℕ). option_or a (find_in (f m ∷ []) x)) (hit f m k x q h e)) (last_or l)
 
 -- ---- deciding
 pub tri : (i j : ℕ) → (i < j) ⊎ ((i ≡ j) ⊎ (j < i))
@@ -61,7 +53,7 @@ unfolding without
 without_append p [] b = refl
 without_append p (e ∷ a) b = go (eqb e.1 p) (without_append p a b)
   where
-    go : (q : Bool) → without p (a ++ b) ≡ without p a ++ without p b → keep q e (without p (a ++ b)) ≡ keep q e (without p a) ++ without p b
+    go : (q : Bool) → without p (a ++ b) ≡ without p a ++ without p b → cond q (without p (a ++ b)) (e ∷ without p (a ++ b)) ≡ cond q (without p a) (e ∷ without p a) ++ without p b
     go true r = r
     go false r = ap (λ (l : List (ℕ × ℕ)). e ∷ l) r
 
@@ -70,14 +62,14 @@ unfolding tab without
 without_none f p zero h = refl
 without_none f p (suc m) h =
     without_append p (tab f m) (f m ∷ [])
-    ∙ ap₂ (λ (a : List (ℕ × ℕ)) (q : Bool). a ++ keep q (f m) []) (without_none f p m (λ i l. h i (omega arith))) (ne_eqb (f m).1 p (h m (omega arith)))
+    ∙ ap₂ (λ (a : List (ℕ × ℕ)) (q : Bool). a ++ cond q [] (f m ∷ [])) (without_none f p m (λ i l. h i (omega arith))) (ne_eqb (f m).1 p (h m (omega arith)))
 
 -- the one at k goes: what comes before stays, and what comes after moves down
 without_last : (f g : ℕ → ℕ × ℕ) (p k m : ℕ) → k ≡ m → (f k).1 ≡ p → ((i : ℕ) → i < suc m → (i ≡ k → ⊥) → (f i).1 ≡ p → ⊥) → ((i : ℕ) → i < k → g i ≡ f i) → without p (tab f (suc m)) ≡ tab g m
 unfolding tab without
 without_last f g p k m q e d lo =
     without_append p (tab f m) (f m ∷ [])
-    ∙ ap₂ (λ (a : List (ℕ × ℕ)) (b : Bool). a ++ keep b (f m) []) (without_none f p m (λ i r. d i (omega arith) (omega arith)) ∙ tab_ext f g m (λ i r. sym (lo i (omega arith)))) (eq-eqb (f m).1 p (ap (λ (j : ℕ). (f j).1) (sym q) ∙ e))
+    ∙ ap₂ (λ (a : List (ℕ × ℕ)) (b : Bool). a ++ cond b [] (f m ∷ [])) (without_none f p m (λ i r. d i (omega arith) (omega arith)) ∙ tab_ext f g m (λ i r. sym (lo i (omega arith)))) (eq-eqb (f m).1 p (ap (λ (j : ℕ). (f j).1) (sym q) ∙ e))
     ∙ append-nil (tab g m)
 
 pub without_one : (f g : ℕ → ℕ × ℕ) (p k m : ℕ) → k ≤ m → (f k).1 ≡ p → ((i : ℕ) → i < suc m → (i ≡ k → ⊥) → (f i).1 ≡ p → ⊥) → ((i : ℕ) → i < k → g i ≡ f i) → ((i : ℕ) → k ≤ i → i < m → g i ≡ f (suc i)) → without p (tab f (suc m)) ≡ tab g m
@@ -85,22 +77,22 @@ unfolding tab without
 without_one f g p k zero l e d lo hi = without_last f g p k zero (omega arith) e d lo
 without_one f g p k (suc m) l e d lo hi = ⊎_elim (λ q. without_last f g p k (suc m) q e d lo)
     (λ q. without_append p (tab f (suc m)) (f (suc m) ∷ [])
-    ∙ ap₂ (λ (a : List (ℕ × ℕ)) (b : Bool). a ++ keep b (f (suc m)) []) (without_one f g p k m (omega arith) e (λ i r. d i (omega arith)) lo (λ i r u. hi i r (omega arith))) (ne_eqb (f (suc m)).1 p (d (suc m) (omega arith) (omega arith)))
+    ∙ ap₂ (λ (a : List (ℕ × ℕ)) (b : Bool). a ++ cond b [] (f (suc m) ∷ [])) (without_one f g p k m (omega arith) e (λ i r. d i (omega arith)) lo (λ i r u. hi i r (omega arith))) (ne_eqb (f (suc m)).1 p (d (suc m) (omega arith) (omega arith)))
     ∙ ap (λ (x : ℕ × ℕ). tab g m ++ (x ∷ [])) (sym (hi m (omega arith) (omega arith)))) (eq-or-lt_of_le l)
 
 -- ---- find
 module _ (n : ℕ) (t : List ℕ) (x r : ℕ) (T : Table n t) (R : Rank n t x r) where
-  pub find_hit : (s p : ℕ) → r < count t → p ≡ order t r → s ≡ stamp n t p → s ≡ x + 1 → find_in (live n t) x ≡ At p
+  pub find_hit : (s p : ℕ) → r < count t → p ≡ order t r → s ≡ stamp n t p → s ≡ x + 1 → find_in (live n t) x ≡ Some p
   find_hit s p l e f g =
-      hit (entry n t) (count t) r x l (λ i q z. omega (arith, R.low i q, T.used i (omega arith))) (omega (arith, f ∙ ap (stamp n t) e)) ∙ ap At (sym e)
+      hit (entry n t) (count t) r x l (λ i q z. omega (arith, R.low i q, T.used i (omega arith))) (omega (arith, f ∙ ap (stamp n t) e)) ∙ ap Some (sym e)
 
-  pub find_other : (s p : ℕ) → r < count t → p ≡ order t r → s ≡ stamp n t p → (s ≡ x + 1 → ⊥) → find_in (live n t) x ≡ Nothing
+  pub find_other : (s p : ℕ) → r < count t → p ≡ order t r → s ≡ stamp n t p → (s ≡ x + 1 → ⊥) → find_in (live n t) x ≡ None
   find_other s p l e f g = miss (entry n t) (count t) x (λ i q z.
       let u : 0 < stamp n t (order t i) = T.used i q in
       let k : s ≡ stamp n t (order t r) = f ∙ ap (stamp n t) e in
       ⊎_elim (λ h. omega (arith, R.low i h)) (⊎_elim (λ h. g (omega (arith, ap (λ (j : ℕ). stamp n t (order t j)) h))) (λ h. omega (arith, T.rising r i h q, R.high r (omega arith) l))) (tri i r))
 
-  pub find_past : count t ≤ r → find_in (live n t) x ≡ Nothing
+  pub find_past : count t ≤ r → find_in (live n t) x ≡ None
   find_past l = miss (entry n t) (count t) x (λ i q z. omega (arith, T.used i q, R.low i (omega arith)))
 
 -- ---- no place for two: a function that is one-to-one below a, with values below b
@@ -114,7 +106,7 @@ pigeon zero (suc a) f v d = absurd (not-suc-le-zero (v 0 (omega arith)))
 pigeon (suc b) zero f v d = omega arith
 pigeon (suc b) (suc a) f v d =
     let g : ℕ → ℕ = λ i. pick_n (eqb (f i) b) (f a) (f i) in
-    let by : (i : ℕ) → ((f i ≡ b) × (g i ≡ f a)) ⊎ ((f i ≡ b → ⊥) × (g i ≡ f i)) = λ i. ⊎_elim (λ e. inl (e, ap (λ (q : Bool). pick_n q (f a) (f i)) (eq-eqb (f i) b e))) (λ e. inr (e, ap (λ (q : Bool). pick_n q (f a) (f i)) (ne_eqb (f i) b e))) (same? (f i) b) in
+    let by : (i : ℕ) → ((f i ≡ b) × (g i ≡ f a)) ⊎ ((f i ≡ b → ⊥) × (g i ≡ f i)) = λ i. ⊎_elim (λ e. inl (e, ap (λ (q : Bool). pick_n q (f a) (f i)) (eq-eqb (f i) b e))) (λ e. inr (e, ap (λ (q : Bool). pick_n q (f a) (f i)) (ne_eqb (f i) b e))) (cases_eq (f i) b) in
     suc-le-suc (pigeon b a g
     (λ i l. ⊎_elim (λ w. omega (arith, v a (omega arith), lt_of_le-ne (le_of_suc-le-suc (v a (omega arith))) (λ e. d i a l (omega arith) (w.0 ∙ sym e)))) (λ w. omega (arith, lt_of_le-ne (le_of_suc-le-suc (v i (omega arith))) w.0)) (by i))
     (λ i j l m e. ⊎_elim (λ w. ⊎_elim (λ u. d i j l (omega arith) (w.0 ∙ sym u.0)) (λ u. d j a m (omega arith) (sym u.1 ∙ sym e ∙ w.1)) (by j)) (λ w. ⊎_elim (λ u. d i a (omega arith) (omega arith) (sym w.1 ∙ e ∙ u.1)) (λ u. d i j l (omega arith) (sym w.1 ∙ e ∙ u.1)) (by j)) (by i)))
@@ -139,7 +131,7 @@ pigeon_of b a P h v d =
 pub full : (n : ℕ) (t : List ℕ) → Table n t → ((p : ℕ) → p < n → 0 < stamp n t p) → n ≤ count t
 full n t T all = pigeon_of (count t) n (λ p i. (i < count t) × (order t i ≡ p)) (λ p l. let f = T.found p l (all p l) in (f.0, (f.1, f.2))) (λ p i w. w.0) (λ p q i w u. sym w.1 ∙ u.1)
 
-pub has_free : (n : ℕ) (t : List ℕ) → Table n t → count t < n → lowest (stamp n t) n ≡ Nothing → ⊥
+pub has_free : (n : ℕ) (t : List ℕ) → Table n t → count t < n → lowest (stamp n t) n ≡ None → ⊥
 has_free n t T l e = omega (arith, full n t T (taken_all (stamp n t) n e))
 
 -- a free place is one that the order does not have: so the count is below n
@@ -158,15 +150,6 @@ shape T = record { cap = T.cap; size = T.size; few = T.few }
 
 pub ordered : {n : ℕ} {t : List ℕ} → Table n t → Ordered n t
 ordered T = record { inside = T.inside; used = T.used; rising = T.rising }
-
-pub placed : {n : ℕ} {t : List ℕ} → Table n t → Placed n t
-placed T = record { below = T.below; found = T.found }
-
-pub rested : {n : ℕ} {t : List ℕ} → Table n t → Rested n t
-rested T = record { rest = T.rest }
-
-pub table_of : {n : ℕ} {t : List ℕ} → Shape n t → next t ≤ 4294967295 → Ordered n t → Rested n t → Placed n t → Table n t
-table_of S f O R P = record { cap = S.cap; size = S.size; few = S.few; fresh = f; inside = O.inside; used = O.used; rising = O.rising; below = P.below; found = P.found; rest = R.rest }
 
 -- the rank of a live thing's number is its position
 pub at_rank : (n : ℕ) (t : List ℕ) (p x k : ℕ) → Ordered n t → (i : ℕ) × (i < count t) × (order t i ≡ p) → x + 1 ≡ stamp n t p → Rank n t x k → (k < count t) × (order t k ≡ p)

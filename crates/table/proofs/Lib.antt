@@ -5,5 +5,6 @@ pub mod Facts
 pub mod Canon
 pub mod Moves
 pub mod Quick
+pub mod Checks
 pub mod Live
 pub mod Shifts

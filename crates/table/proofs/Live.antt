@@ -1,16 +1,11 @@
 -- A table's live things by places: a place stands in the live list exactly where it has a stamp, and with the number that the stamp says.
 -- Assumes nothing.
-use mathlib.Core.Path.{◌≡◌, refl, sym, ap, ◌∙◌}
-use mathlib.Core.Bool.{Bool}
-use mathlib.Core.Logic.{◌≢◌, if_pos, if_neg, by_cases}
-use mathlib.Core.List.{List, [], ◌∷◌, ◌++◌}
-use Prim.Native.Nat.{ℕ, zero, suc, ◌+◌, ◌-◌, ◌<◌}
+use Rattle.std.proofs.Common.{◌≡◌, refl, sym, ap, ◌∙◌, Bool, cond, ◌≢◌, List, [], ◌∷◌, ◌++◌, ℕ, zero, suc, ◌+◌, ◌-◌, ◌<◌, arith, eq-eqb, ne_eqb, length, get_or, length-append}
+use mathlib.Core.Logic.{if_pos, if_neg, by_cases}
 use native.Mathlib.Decide.{ℕ_discrete}
-use native.Mathlib.Omega.{arith}
-use borrow.Author.Tests.{eq-eqb, ne_eqb}
-use lib.ListN.{length, get_or, length-append, get_or-map}
-use Rattle.bits.specs.declared.Found.TheVariants.{At, Nothing}
-use Rattle.table.specs.Table.{Table, order, stamp, live, entry, tab, find_in, without, keep}
+use lib.ListN.{get_or-map}
+use Rattle.std.specs.Prelude.{Some, None}
+use Rattle.table.specs.Table.{Table, order, stamp, live, entry, tab, find_in, without}
 use Rattle.table.specs.Table.{count as lives}
 use Rattle.table.proofs.Facts.{find_iff}
 use Rattle.table.proofs.Canon.{tab_get}
@@ -73,8 +68,8 @@ unfolding without
 without_is p [] = refl
 without_is p (e ∷ l) =
     by_cases (ℕ_discrete e.1 p)
-    (λ y. ap (λ (b : Bool). keep b e (without p l)) (eq-eqb e.1 p y) ∙ without_is p l ∙ sym (if_pos (ℕ_discrete e.1 p) y (without_by ℕ_discrete (λ (x : Entry). x.1) p l) (e ∷ without_by ℕ_discrete (λ (x : Entry). x.1) p l)))
-    (λ n. ap (λ (b : Bool). keep b e (without p l)) (ne_eqb e.1 p n) ∙ ap (λ (r : List Entry). e ∷ r) (without_is p l) ∙ sym (if_neg (ℕ_discrete e.1 p) n (without_by ℕ_discrete (λ (x : Entry). x.1) p l) (e ∷ without_by ℕ_discrete (λ (x : Entry). x.1) p l)))
+    (λ y. ap (λ (b : Bool). cond b (without p l) (e ∷ without p l)) (eq-eqb e.1 p y) ∙ without_is p l ∙ sym (if_pos (ℕ_discrete e.1 p) y (without_by ℕ_discrete (λ (x : Entry). x.1) p l) (e ∷ without_by ℕ_discrete (λ (x : Entry). x.1) p l)))
+    (λ n. ap (λ (b : Bool). cond b (without p l) (e ∷ without p l)) (ne_eqb e.1 p n) ∙ ap (λ (r : List Entry). e ∷ r) (without_is p l) ∙ sym (if_neg (ℕ_discrete e.1 p) n (without_by ℕ_discrete (λ (x : Entry). x.1) p l) (e ∷ without_by ℕ_discrete (λ (x : Entry). x.1) p l)))
 
 module _ {n : ℕ} {t : List ℕ} (T : Table n t) where
   pub live_stamp : (p : ℕ) → 0 < count ℕ_discrete p (places (live n t)) → (p < n) × (0 < stamp n t p)
@@ -91,15 +86,15 @@ module _ {n : ℕ} {t : List ℕ} (T : Table n t) where
   pub free_dead : (p : ℕ) → stamp n t p ≡ 0 → count ℕ_discrete p (places (live n t)) ≡ 0
   free_dead p z = by_cases (ℕ_discrete (count ℕ_discrete p (places (live n t))) 0) (λ y. y) (λ d. absurd (omega (arith, z, (live_stamp p (omega (arith, d))).1)))
 
-  pub found_at : (x p : ℕ) → find_in (live n t) x ≡ At p → (0 < count ℕ_discrete p (places (live n t))) × (lookup (live n t) p ≡ x)
+  pub found_at : (x p : ℕ) → find_in (live n t) x ≡ Some p → (0 < count ℕ_discrete p (places (live n t))) × (lookup (live n t) p ≡ x)
   found_at x p e =
       let w : (p < n) × (stamp n t p ≡ x + 1) = (find_iff n t T x p).0 e in
       let h : 0 < count ℕ_discrete p (places (live n t)) = stamp_live p w.0 (omega (arith, w.1)) in
       (h, omega (arith, live_number p h, w.1))
 
-  pub found_none : (x p : ℕ) → find_in (live n t) x ≡ Nothing → 0 < count ℕ_discrete p (places (live n t)) → lookup (live n t) p ≢ x
+  pub found_none : (x p : ℕ) → find_in (live n t) x ≡ None → 0 < count ℕ_discrete p (places (live n t)) → lookup (live n t) p ≢ x
   found_none x p e h g =
-      let y : find_in (live n t) x ≡ At p = (find_iff n t T x p).1 ((live_stamp p h).0, omega (arith, live_number p h, g)) in
+      let y : find_in (live n t) x ≡ Some p = (find_iff n t T x p).1 ((live_stamp p h).0, omega (arith, live_number p h, g)) in
       let z : ◌≡◌ {A = ℕ} 0 1 = cc in
       omega arith
 

@@ -1,10 +1,5 @@
 -- What an end has to write: from the ended thing on each entry of the order but the last becomes that of the next younger thing, which is another, so whatever meets the contract of `end` writes a word for each younger thing. Assumes nothing.
-use mathlib.Core.Path.{◌≡◌, refl, sym, ap, ◌∙◌}
-use mathlib.Core.Logic.{◌⊎◌, inl, inr, ⊎_elim}
-use mathlib.Core.List.{List}
-use Prim.Native.Nat.{ℕ, suc, ◌-◌, ◌≤◌, ◌<◌}
-use native.Mathlib.Omega.{arith}
-use lib.ListN.{length, get_or}
+use Rattle.std.proofs.Common.{◌≡◌, refl, sym, ap, ◌∙◌, ◌⊎◌, inl, inr, ⊎_elim, List, ℕ, suc, ◌-◌, ◌≤◌, ◌<◌, arith, length, get_or}
 use Rattle.bits.proofs.Digits.{le_or_lt}
 use Rattle.table.specs.Table.{Table, Ended, count, order, stamp, live, entry, tab, without}
 use Rattle.table.proofs.Laws.{without_one, tri}

@@ -1,8 +1,5 @@
 -- Where a number can stand in the order: births and ends bound it from both sides. Assumes nothing.
-use mathlib.Core.Path.{◌≡◌}
-use mathlib.Core.List.{List}
-use Prim.Native.Nat.{ℕ, zero, suc, ◌+◌, ◌-◌, ◌≤◌, ◌<◌}
-use native.Mathlib.Omega.{arith}
+use Rattle.std.proofs.Common.{◌≡◌, refl, List, ℕ, zero, suc, min, ◌+◌, ◌-◌, ◌≤◌, ◌<◌, arith}
 use Rattle.table.specs.Table.{Table, next, count, order, stamp, Bracket}
 
 module _ (n : ℕ) (t : List ℕ) (T : Table n t) where
@@ -24,12 +21,12 @@ module _ (n : ℕ) (t : List ℕ) (T : Table n t) where
   count_next zero e = omega arith
   count_next (suc c) e = omega (arith, stamp_least c (omega arith), T.below (order t c) (T.inside c (omega arith)))
 
--- before the first step: l live, d ended, and e = x - d
-pub bracket : (n : ℕ) (t : List ℕ) (x l d e lo hi : ℕ) → Table n t → l ≡ count t → d ≡ next t - l → e ≡ x - d → lo ≡ l - (l - e) → hi ≡ l - (l - x) → Bracket n t x lo hi
-bracket n t x l d e lo hi T a b f g h =
+-- before the first step: of l live things, where e numbers up to x cannot have ended
+pub bracket : (n : ℕ) (t : List ℕ) (x lo hi : ℕ) → Table n t → lo ≡ min (count t) (x - (next t - count t)) → hi ≡ min (count t) x → Bracket n t x lo hi
+bracket n t x lo hi T g h =
     record {
       ordered = omega arith;
       within = omega arith;
-      low = λ i q. omega (arith, stamp_most n t T i (omega arith), count_next n t T l a);
+      low = λ i q. omega (arith, stamp_most n t T i (omega arith), count_next n t T (count t) refl);
       high = λ i q r. omega (arith, stamp_least n t T i r);
     }

@@ -1,12 +1,10 @@
 -- As many stamps as the order has: then the order has every taken place. Assumes nothing.
-use mathlib.Core.Path.{◌≡◌, refl, sym, ap, ◌∙◌, subst}
+use Rattle.std.proofs.Common.{◌≡◌, refl, sym, ap, ◌∙◌, subst, List, [], ◌∷◌, ◌++◌, arith, add-one, ℕ, zero, suc, ◌+◌, ◌-◌, ◌<◌, ◌≤◌, not, eqb, length, take, get_or, length-append, take_all}
 use mathlib.Core.Logic.{by_cases}
-use mathlib.Core.List.{List, [], ◌∷◌, ◌++◌}
 use native.Mathlib.Decide.{ℕ_discrete, dec_lt}
-use native.Mathlib.Omega.{arith}
-use native.Mathlib.Numerals.{add-one}
-use Prim.Native.Nat.{ℕ, zero, suc, ◌+◌, ◌-◌, ◌<◌, ◌≤◌}
-use lib.ListN.{length, length-append}
+use Rattle.std.specs.List.{count_by}
+use Rattle.std.proofs.lemmas.Bool.{ne_eqb}
+use Rattle.std.proofs.lemmas.List.Sums.{count_by_more_yes, count_by_more_no}
 use Rattle.seqs.specs.Seqs.{tick, count, In, sum}
 use Rattle.seqs.proofs.Base.{tick_yes, tick_no, count_append, in_head, in_tail}
 use Rattle.seqs.proofs.Sums.{length_count}
@@ -147,13 +145,19 @@ module _ (n : ℕ) (t : List ℕ) (O : Ordered n t) where
       once x i = let w : (x < n) × (0 < stamp n t x) = live_of x i in let r : (i : ℕ) × (i < T.count t) × (order t i ≡ x) = P.found x w.0 w.1 in
           omega (arith, front_once (T.count t) (omega arith) x, subst (λ (q : ℕ). In ℕ_discrete q l) r.2 (front_in t (T.count t) r.0 r.1))
 
-pub taken_none : (n : ℕ) (t : List ℕ) → 0 ≡ taken n t 0
-unfolding taken
-taken_none n t = refl
+-- the stamps that are not 0, counted
+module _ (n : ℕ) (t xs : List ℕ) (long : length xs ≡ n) (same : (i : ℕ) → i < n → get_or xs i 0 ≡ stamp n t i) where
+  abbrev counted : ℕ → ℕ
+  counted k = count_by (λ s. not (eqb s 0)) (take k xs)
 
-pub taken_more : (n : ℕ) (t : List ℕ) (k r g : ℕ) → k ≡ taken n t r → g ≡ sign (stamp n t r) → k + g ≡ taken n t (r + 1)
-unfolding taken
-taken_more n t k r g e f = rw (add-one r) (omega arith)
+  one_more : (k s : ℕ) → counted k ≡ taken n t k → k < n → get_or xs k 0 ≡ s → counted (k + 1) ≡ taken n t k + sign s
+  one_more k zero h q e = count_by_more_no (λ s. not (eqb s 0)) xs k 0 (omega arith) (ap (λ (s : ℕ). not (eqb s 0)) e) ∙ omega arith
+  one_more k (suc s) h q e = count_by_more_yes (λ s. not (eqb s 0)) xs k 0 (omega arith) (ap not (ne_eqb (get_or xs k 0) 0 (omega arith))) ∙ omega arith
 
-pub sign_small : (s g : ℕ) → g ≡ sign s → g ≤ 1
-sign_small s g e = omega (arith, sign_le s)
+  counted_is : (k : ℕ) → k ≤ n → counted k ≡ taken n t k
+  unfolding taken
+  counted_is zero h = refl
+  counted_is (suc k) h = rw (← add-one k) (one_more k (stamp n t k) (counted_is k (omega arith)) h (same k h))
+
+  pub taken_count : count_by (λ s. not (eqb s 0)) xs ≡ taken n t n
+  taken_count = ap (count_by (λ s. not (eqb s 0))) (sym (take_all n xs (omega arith))) ∙ counted_is n (omega arith)

@@ -1,42 +1,14 @@
 -- A gap closed in a part of the table that was lent for it. Assumes nothing.
-use mathlib.Core.Path.{◌≡◌, refl, sym, ap, ◌∙◌}
-use mathlib.Core.Logic.{⊎_elim}
-use mathlib.Core.List.{List, ◌++◌}
-use Prim.Native.Nat.{ℕ, ◌+◌, ◌-◌, ◌≤◌, ◌<◌}
-use native.Mathlib.Nat.{eq-or-lt_of_le}
-use native.Mathlib.Omega.{arith}
-use lib.ListN.{length, get_or, set, take, drop, length-set, get_or-append}
-use lib.Seq.{get_or-set_same, get_or-set_other, get_or-take, get_or-drop, get_or-append-add, length-take-le}
+use Rattle.std.proofs.Common.{◌≡◌, sym, ap, ◌∙◌, ⊎_elim, List, ◌++◌, ℕ, ◌+◌, ◌-◌, ◌≤◌, ◌<◌, eq-or-lt_of_le, arith, length, get_or, take, drop, get_or-take, get_or-drop, get_or-append-add, length-take-le}
+use lib.ListN.{get_or-append}
 use Rattle.seqs.specs.Split.{splice, length_part, length_splice}
-use Rattle.table.specs.Table.{Closed, Shifted}
+use Rattle.table.specs.Table.{Shifted}
 
--- part of the way: i is the next to be read
-pub record Part (s₀ s : List ℕ) (i : ℕ) : Type 0 where
-  pub from : 1 ≤ i
-  pub to : i ≤ length s₀
-  pub long : length s ≡ length s₀
-  pub moved : (j : ℕ) → j + 1 < i → get_or s j 0 ≡ get_or s₀ (j + 1) 0
-  pub over : (j : ℕ) → i ≤ j + 1 → get_or s j 0 ≡ get_or s₀ j 0
-
-pub begun : (s : List ℕ) → 0 < length s → Part s s 1
-begun s h = record { from = omega arith; to = h; long = refl; moved = λ j a. absurd (omega (arith, a)); over = λ j a. refl }
-
-pub part_more : (s₀ s : List ℕ) (i : ℕ) → Part s₀ s i → i < length s → Part s₀ (set s (i - 1) (get_or s i 0)) (i + 1)
-part_more s₀ s i P h =
-    let q : ℕ = get_or s i 0 in
-    record {
-      from = omega arith;
-      to = omega (arith, h, P.long);
-      long = length-set s (i - 1) q ∙ P.long;
-      moved = λ j a. ⊎_elim
-          (λ e. let w : j ≡ i - 1 = omega (arith, e) in ap (λ (x : ℕ). get_or (set s (i - 1) q) x 0) w ∙ get_or-set_same s (i - 1) q 0 (omega (arith, h)) ∙ P.over i (omega arith) ∙ ap (λ (x : ℕ). get_or s₀ x 0) (sym e))
-          (λ e. get_or-set_other s (i - 1) j q 0 (omega (arith, e)) ∙ P.moved j e)
-          (eq-or-lt_of_le {n = j + 1} {m = i} (omega (arith, a)));
-      over = λ j a. get_or-set_other s (i - 1) j q 0 (omega (arith, a, P.from)) ∙ P.over j (omega (arith, a));
-    }
-
-pub closed : (s₀ s : List ℕ) (i : ℕ) → Part s₀ s i → length s ≤ i → Closed s₀ s
-closed s₀ s i P h = record { long = P.long; moved = λ j a. P.moved j (omega (arith, a, h, P.long)); last = λ j a. P.over j (omega (arith, a, P.to)) }
+-- each number but the first moved down by one
+pub record Closed (s s' : List ℕ) : Type 0 where
+  pub long : length s' ≡ length s
+  pub moved : (i : ℕ) → i + 1 < length s → get_or s' i 0 ≡ get_or s (i + 1) 0
+  pub last : (i : ℕ) → i + 1 ≡ length s → get_or s' i 0 ≡ get_or s i 0
 
 -- ---- the part in its place
 

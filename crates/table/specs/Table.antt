@@ -1,9 +1,7 @@
 -- The birth table of n places in one slice, and what its functions do to the things alive: pairs of a birth number and a place.
 -- Assumes nothing: these are definitions.
-use Rattle.std.specs.Prelude.{◌≡◌, Bool, true, false, List, [], ◌∷◌, ◌++◌, ℕ, zero, suc, ◌+◌, ◌-◌, ◌≤◌, ◌<◌, eqb, length, get_or}
+use Rattle.std.specs.Prelude.{◌≡◌, List, [], ◌∷◌, ◌++◌, ℕ, zero, suc, ◌+◌, ◌-◌, ◌≤◌, ◌<◌, eqb, cond, length, get_or, Option, Some, None}
 pub use Rattle.seqs.specs.Seqs.{Says}
-use Rattle.bits.specs.declared.Found.{Found}
-use Rattle.bits.specs.declared.Found.TheVariants.{At, Nothing}
 
 -- the cells: the next birth number, how many live, the place of the i-th live thing, the stamp (birth number + 1; 0 where free) of place p
 abbrev pub next : List ℕ → ℕ
@@ -62,23 +60,15 @@ entry n t i = (stamp n t (order t i) - 1, order t i)
 abbrev pub live : ℕ → List ℕ → List (ℕ × ℕ)
 live n t = tab (entry n t) (count t)
 
-abbrev pub pick : Bool → Found → Found → Found
-pick true a b = a
-pick false a b = b
-
 -- the place of the first with the number x
-unfoldable pub find_in : List (ℕ × ℕ) → ℕ → Found
-find_in [] x = Nothing
-find_in (e ∷ l) x = pick (eqb e.0 x) (At e.1) (find_in l x)
-
-abbrev pub keep : Bool → ℕ × ℕ → List (ℕ × ℕ) → List (ℕ × ℕ)
-keep true e l = l
-keep false e l = e ∷ l
+unfoldable pub find_in : List (ℕ × ℕ) → ℕ → Option ℕ
+find_in [] x = None
+find_in (e ∷ l) x = cond (eqb e.0 x) (Some e.1) (find_in l x)
 
 -- without the one at place p
 unfoldable pub without : ℕ → List (ℕ × ℕ) → List (ℕ × ℕ)
 without p [] = []
-without p (e ∷ l) = keep (eqb e.1 p) e (without p l)
+without p (e ∷ l) = cond (eqb e.1 p) (without p l) (e ∷ without p l)
 
 -- r is how many live things have a stamp of at most x
 pub record Rank (n : ℕ) (t : List ℕ) (x r : ℕ) : Type 0 where
@@ -108,12 +98,6 @@ pub record Ended (n : ℕ) (t t' : List ℕ) (p : ℕ) : Type 0 where
   pub lives : live n t' ≡ without p (live n t)
   pub here : stamp n t' p ≡ 0
   pub others : (q : ℕ) → q < n → (q ≡ p → ⊥) → stamp n t' q ≡ stamp n t q
-
--- each number but the first moved down by one
-pub record Closed (s s' : List ℕ) : Type 0 where
-  pub long : length s' ≡ length s
-  pub moved : (i : ℕ) → i + 1 < length s → get_or s' i 0 ≡ get_or s (i + 1) 0
-  pub last : (i : ℕ) → i + 1 ≡ length s → get_or s' i 0 ≡ get_or s i 0
 
 -- the order's places from k + 1 to l moved down by one, and nothing else
 pub record Shifted (k l : ℕ) (t t' : List ℕ) : Type 0 where

@@ -1,49 +1,43 @@
 -- The listed uses of a value move to another, one after the other. Assumes nothing.
-use mathlib.Core.Path.{◌≡◌, refl, sym, ap, ap₂, ◌∙◌, subst}
-use mathlib.Core.Logic.{◌≢◌}
+use mathlib.Core.Path.{◌≡◌, refl, sym, ap, ap₂, ◌∙◌}
 use mathlib.Core.Bool.{Bool}
-use mathlib.Core.List.{List, [], ◌∷◌}
+use mathlib.Core.List.{List, ◌∷◌}
 use mathlib.Core.Option.{some}
-use Prim.Native.Nat.{ℕ, zero, suc, ◌+◌, ◌-◌, ◌≤◌, ◌<◌}
-use native.Mathlib.Omega.{arith}
+use Prim.Native.Nat.{ℕ, ◌+◌, ◌≤◌, ◌<◌}
 use native.Mathlib.Numerals.{add-one}
 use lib.Dec.{eqb}
 use lib.ListN.{length, get_or, drop}
 use lib.Seq.{drop-cons}
+use Rattle.std.proofs.Math.ListN.{drop_of_length-le}
 use borrow.Author.Tests.{ne_eqb}
-use Rattle.bits.specs.declared.Found.{Found}
-use Rattle.bits.specs.declared.Found.TheVariants.{At, Nothing}
+use Rattle.std.proofs.Common.{None, Ok, inl, inr}
 use Rattle.edit.specs.Record.{Slot, operand, Definition, replace_some}
 use Rattle.edit.specs.Taken.{edit_of}
 use Rattle.edit.proofs.ByKind.{kinds}
 use Rattle.edit.specs.Answer.{clean, found}
-use Rattle.edit.specs.declared.Answer.TheVariants.{Accepted}
 use Rattle.rules.specs.Table.{Table, member}
 use Rattle.rules.specs.History.{births, carry_out, remember, defined, place_some}
 use Rattle.rules.specs.Orders.{order, reorder}
 use Rattle.rules.specs.State.{new_flags, new_types}
-use Rattle.rules.specs.Refusal.{from_state}
+use Rattle.rules.specs.Refusal.{from_state, named, definition_named}
 use Rattle.rules.specs.Step.{answer}
-use Rattle.places.specs.Store.{Kind, usg, use_sets, Thing, Con, State, alive, Live, Fit, UseHeld, enter, leave, relink, set_own, set_list}
+use Rattle.places.specs.Store.{Kind, usg, use_sets, Thing, Con, State, alive, enter, leave, relink, set_own, set_list}
 use Rattle.places.specs.View.{num}
 use Rattle.places.specs.Hist.{meaning}
 use Rattle.places.specs.Edits.{place_move_use}
 use Rattle.places.specs.Roles.{def_kind, def_role}
-use Rattle.places.proofs.Steps.{some_inj}
 use Rattle.places.proofs.Sees.{num_inj}
 use Rattle.places.proofs.Settling.{settles_same, tables_move}
 use Rattle.places.proofs.RuleMoves.{rehold, rehold_self, rehold_uses, rehold_twice, reheld_accept}
 use Rattle.places.proofs.RuleSome.{placed, placed_twice, placed_none, placed_stays, one_placed}
 use Rattle.places.proofs.RuleCodes.{definitions_there}
 use Rattle.context.specs.declared.Layout.{Layout}
-use Rattle.context.specs.Memory.{part, con, state_of, SoundStore, Finds, HomeIs}
-use Rattle.context.specs.Steps.{CanMove, Moved}
+use Rattle.context.specs.Memory.{part, con, state_of, SoundStore}
+use Rattle.context.specs.Steps.{Moved}
 use Rattle.context.specs.Performed.{Performed}
 use Rattle.uses.specs.Look.{DefAt}
-use Rattle.uses.specs.Some.{Between, PlacedOne, PlacedAll}
+use Rattle.uses.specs.Some.{Between, HeldIn, PlacedOne, PlacedAll}
 use Rattle.context.proofs.Performing.{accepts}
-use Rattle.uses.proofs.Taking.{held_at}
-use Rattle.uses.proofs.Looking.{names_some, same_row}
 
 abbrev uses : Layout → List ℕ → Table Definition
 uses l m = (meaning (state_of l m)).history.uses
@@ -103,43 +97,13 @@ module _ {l : Layout} {d e x : ℕ} {m : List ℕ} (S : SoundStore l m) (W : Bet
   one_kept (PlacedOne.moved u lu nu held M) c f A = def_kept held M operand c f A
   one_kept (PlacedOne.stayed h) c f A = A
 
--- ---- the code of one: no such use; elsewhere; there
+-- ---- one that does not stand there stays
 
-module _ {l : Layout} {m : List ℕ} (S : SoundStore l m) (d e x : ℕ) (W : Between l m operand d e) where
-  pub no_use : (f : Found) → Finds (state_of l m) usg x f → f ≡ Nothing → PlacedOne l d e x m m
-  no_use f F n = PlacedOne.stayed (λ u lu nu. absurd ((rw n at F) u lu nu))
-
-  module _ (u : ℕ) (f : Found) (F : Finds (state_of l m) usg x f) (at-u : f ≡ At u) where
-    u_is : Live (state_of l m) (usg, u) × (num (state_of l m) (usg, u) ≡ x)
-    u_is = rw at-u at F
-
-    module _ (h : ℕ) (H : HomeIs l use_sets u m h) where
-      home : (state_of l m).own (usg, u) use_sets ≡ some (con l use_sets (h - 1))
-      home = (held_at S u h u_is.0 H).1
-
-      one_more : (y : ℕ) → suc y ≡ y + 1
-      one_more y = omega arith
-
-      pub elsewhere : h ≢ d + 1 → PlacedOne l d e x m m
-      elsewhere n = PlacedOne.stayed (λ v lv nv q.
-          let p : ◌≡◌ {A = Thing} (usg, v) (usg, u) = num_inj (state_of l m) S.sound.linked.tabs (usg, v) (usg, u) refl lv u_is.0 (nv ∙ sym u_is.1) in
-          n ((held_at S u h u_is.0 H).0 ∙ ap suc (same_row l (h - 1) d (some_inj (sym home ∙ ap (λ (y : Thing). (state_of l m).own y use_sets) (sym p) ∙ q))) ∙ one_more d))
-
-      module _ (here : h ≡ d + 1) where
-        held : (state_of l m).own (usg, u) use_sets ≡ some (con l use_sets d)
-        held = home ∙ ap (λ (j : ℕ). some (con l use_sets j)) (omega (arith, here))
-
-        K : UseHeld ((state_of l m).own (usg, u))
-        K = S.sound.placed (usg, u) u_is.0
-
-        fits : Fit K.slot.0 (def_role operand)
-        fits = subst (λ (c : Con). Fit K.slot.0 c.0) (some_inj (sym K.in_def ∙ held) ∙ W.from.row) K.fit
-
-        pub can_move : CanMove (state_of l m) u (con l use_sets e)
-        can_move = rw W.to.row (record { live = u_is.0; fit = λ s q. subst (λ (c : Con). Fit c.0 (def_role operand)) (some_inj (sym K.in_slot ∙ q)) fits; home = W.to.live })
-
-        pub there : {m' : List ℕ} → Moved l u e m m' → PlacedOne l d e x m m'
-        there M = PlacedOne.moved u u_is.0 u_is.1 held M
+pub stays : {l : Layout} {d e x : ℕ} {m : List ℕ} → SoundStore l m → HeldIn l d x m None → PlacedOne l d e x m m
+stays S (inl n) = PlacedOne.stayed (λ u lu nu. absurd (n u lu nu))
+stays {l} {d} {e} {x} {m} S (inr N) = PlacedOne.stayed (λ v lv nv q.
+    let p : ◌≡◌ {A = Thing} (usg, N.place) (usg, v) = num_inj (state_of l m) S.sound.linked.tabs (usg, N.place) (usg, v) refl N.live lv (N.number ∙ sym nv) in
+    N.away (ap (λ (y : Thing). (state_of l m).own y use_sets) p ∙ q))
 
 -- ---- the loop: what is left to do is the whole
 
@@ -152,12 +116,9 @@ pub record Going (l : Layout) (d e : ℕ) (fs m₀ : List ℕ) (i : ℕ) (m : Li
   pub kept : (c f : ℕ) → DefAt l m₀ operand c f → DefAt l m operand c f
   pub left : (a b : ℕ) → DefAt l m₀ operand a d → DefAt l m₀ operand b e → rehold (to a b (λ u. member u (drop i fs)) (uses l m)) (meaning (state_of l m)) ≡ rehold (to a b (λ u. member u (drop 2 fs)) (uses l m₀)) (meaning (state_of l m₀))
 
-pub begins : {l : Layout} {d e : ℕ} (fs : List ℕ) {m : List ℕ} → SoundStore l m → Between l m operand d e → Going l d e fs m 2 m
-begins fs S W = record { sound = S; rest = refl; tables = λ k. refl; between = W; kept = λ c f A. A; left = λ a b A B. refl }
-
-pub goes_on : {l : Layout} {d e : ℕ} {fs m₀ : List ℕ} (i : ℕ) {m m' : List ℕ} (x : ℕ) → Going l d e fs m₀ i m → i < length fs → x ≡ get_or fs i 0 → PlacedOne l d e x m m' → Going l d e fs m₀ (i + 1) m'
+pub goes_on : {l : Layout} {d e : ℕ} {fs m₀ : List ℕ} {i : ℕ} {m m' : List ℕ} {x : ℕ} → Going l d e fs m₀ i m → i < length fs → x ≡ get_or fs i 0 → PlacedOne l d e x m m' → Going l d e fs m₀ (i + 1) m'
 unfolding member
-goes_on {l} {d} {e} {fs} {m₀} i {m} {m'} x G i< at O =
+goes_on {l} {d} {e} {fs} {m₀} {i} {m} {m'} {x} G i< at O =
     record {
       sound = one_sound G.sound G.between O;
       rest = one_rest G.sound G.between O ∙ G.rest;
@@ -181,33 +142,27 @@ goes_on {l} {d} {e} {fs} {m₀} i {m} {m'} x G i< at O =
         ∙ ap (λ (t : Table Definition). rehold t (meaning (state_of l m))) (placed_twice (defined operand a) (defined operand b) (λ k. eqb x k) (λ u. member u (drop (i + 1) fs)) (uses l m))
         ∙ ap (λ (r : List ℕ). rehold (to a b (λ u. member u r) (uses l m)) (meaning (state_of l m))) (sym more)
 
-drop_all : (i : ℕ) (l : List ℕ) → length l ≤ i → drop i l ≡ []
-drop_all zero [] h = refl
-drop_all (suc i) [] h = refl
-drop_all zero (x ∷ l) h = absurd (omega arith)
-drop_all (suc i) (x ∷ l) h = drop_all i l (omega arith)
-
-pub ends : {l : Layout} {d e : ℕ} {fs m₀ : List ℕ} (i : ℕ) {m : List ℕ} → Going l d e fs m₀ i m → length fs ≤ i → PlacedAll l d e (drop 2 fs) m₀ m
+pub ends : {l : Layout} {d e : ℕ} {fs m₀ : List ℕ} {i : ℕ} {m : List ℕ} → Going l d e fs m₀ i m → length fs ≤ i → PlacedAll l d e (drop 2 fs) m₀ m
 unfolding member remember births carry_out place_some defined reorder order new_flags new_types
-ends {l} {d} {e} {fs} {m₀} i {m} G h =
+ends {l} {d} {e} {fs} {m₀} {i} {m} G h =
     record {
       sound = G.sound;
       rest = G.rest;
       tables = G.tables;
       state = λ a b A B.
           reheld_accept (state_of l m₀) (state_of l m) G.sound.sound (replace_some a b (drop 2 fs)) (record { orders = λ h k r. refl; flags = refl; types = refl }) (to a b (λ u. member u (drop 2 fs)) (uses l m₀))
-          (sym (ap (λ (t : Table Definition). rehold t (meaning (state_of l m))) (ap (λ (r : List ℕ). to a b (λ u. member u r) (uses l m)) (drop_all i fs h) ∙ placed_none (defined operand a) (defined operand b) (uses l m)) ∙ rehold_self (meaning (state_of l m))) ∙ G.left a b A B)
+          (sym (ap (λ (t : Table Definition). rehold t (meaning (state_of l m))) (ap (λ (r : List ℕ). to a b (λ u. member u r) (uses l m)) (drop_of_length-le fs h) ∙ placed_none (defined operand a) (defined operand b) (uses l m)) ∙ rehold_self (meaning (state_of l m))) ∙ G.left a b A B)
           refl;
     }
 
 -- ---- the edit
 
-module _ {l : Layout} {m : List ℕ} (S : SoundStore l m) (a b d e : ℕ) (A : DefAt l m operand a d) (B : DefAt l m operand b e) (us : List ℕ) where
-  pub replaced_some : {m' : List ℕ} → PlacedAll l d e us m m' → Performed l (replace_some a b us) m m' (Accepted 0 0)
-  unfolding from_state answer clean found
-  replaced_some Q = accepts (replace_some a b us) Q.sound (definitions_there S.sound (replace_some a b us) operand A.place a A.live A.number b B.place (names_some a b us) B.live B.number) (Q.state a b A B) Q.rest (settles_same Q.tables) 0 0 refl
+module _ {l : Layout} {m : List ℕ} (S : SoundStore l m) {a b d e : ℕ} (A : DefAt l m operand a d) (B : DefAt l m operand b e) {us : List ℕ} where
+  pub replaced_some : {m' : List ℕ} → PlacedAll l d e us m m' → Performed l (replace_some a b us) m m' (Ok (0, 0))
+  unfolding from_state answer clean found named definition_named
+  replaced_some Q = accepts (replace_some a b us) Q.sound (definitions_there S.sound (replace_some a b us) operand A.place a A.live A.number b B.place refl B.live B.number) (Q.state a b A B) Q.rest (settles_same Q.tables) 0 0 refl
 
 -- ---- the record
 
-pub some_edit : (fs : List ℕ) (a b : ℕ) → a ≡ get_or fs 0 0 → b ≡ get_or fs 1 0 → replace_some a b (drop 2 fs) ≡ edit_of 34 fs
-some_edit fs a b p q = ap₂ (λ (x y : ℕ). replace_some x y (drop 2 fs)) p q ∙ sym (kinds fs).some_uses
+pub some_edit : (fs : List ℕ) {a b : ℕ} → a ≡ get_or fs 0 0 → b ≡ get_or fs 1 0 → replace_some a b (drop 2 fs) ≡ edit_of 34 fs
+some_edit fs p q = ap₂ (λ (x y : ℕ). replace_some x y (drop 2 fs)) p q ∙ sym (kinds fs).some_uses

@@ -10,7 +10,8 @@ use lib.ListN.{length, get_or}
 use borrow.Author.Tests.{le-leb, lt-leb}
 use Rattle.edit.specs.Record.{Slot, Edit, replace_use}
 use Rattle.edit.specs.Answer.{clean, found}
-use Rattle.edit.specs.declared.Answer.TheVariants.{Accepted, Refused}
+use Rattle.std.proofs.Common.{Ok, Err}
+use Rattle.edit.specs.declared.Refusal.TheVariants.{NoIndex, NoNumber}
 use Rattle.rules.specs.State.{accept}
 use Rattle.rules.specs.Refusal.{named, check, refusal_of}
 use Rattle.rules.specs.Step.{answer}
@@ -34,7 +35,7 @@ use Rattle.uses.specs.Look.{SlotAt, DefAt}
 use Rattle.context.proofs.Performing.{refuses, accepts}
 use Rattle.uses.proofs.Growing.{cap_is}
 
-module _ {l : Layout} {m : List ℕ} (S : SoundStore l m) (sl : Slot) (n i d s k : ℕ) (A : SlotAt l m sl n s) (B : DefAt l m sl d k) (x : ℕ) (X : LengthIs l slots s m x) where
+module _ {l : Layout} {m : List ℕ} (S : SoundStore l m) {sl : Slot} {n d s k : ℕ} (A : SlotAt l m sl n s) (B : DefAt l m sl d k) {x : ℕ} (X : LengthIs l slots s m x) (i : ℕ) where
   abbrev P : State
   P = state_of l m
 
@@ -51,19 +52,19 @@ module _ {l : Layout} {m : List ℕ} (S : SoundStore l m) (sl : Slot) (n i d s k
       ∙ replace_code S.sound sl A.place n A.live A.number i d
       ∙ ap (λ (a : ℕ). check (leb a i) 12 (ite (dec_lt (P.tab usg).next 4294967295) 0 21)) (sym long)
 
-  pub past_end : x ≤ i → Performed l E m m (Refused 12)
+  pub past_end : x ≤ i → Performed l E m m (Err NoIndex)
   unfolding check
-  past_end h = refuses E S 12 (code ∙ ap (λ b. check b 12 (ite (dec_lt (P.tab usg).next 4294967295) 0 21)) (le-leb x i h)) (λ z. absurd (omega (arith, z)))
+  past_end h = refuses E S NoIndex (code ∙ ap (λ b. check b 12 (ite (dec_lt (P.tab usg).next 4294967295) 0 21)) (le-leb x i h))
 
-  module _ (i< : i < x) (y : ℕ) (Y : NextNumberIs l usg m y) where
+  module _ (i< : i < x) {y : ℕ} (Y : NextNumberIs l usg m y) where
     code₁ : refusal_of (meaning P) E ≡ ite (dec_lt (P.tab usg).next 4294967295) 0 21
     unfolding check
     code₁ = code ∙ ap (λ b. check b 12 (ite (dec_lt (P.tab usg).next 4294967295) 0 21)) (lt-leb x i i<)
 
-    pub no_number : 4294967295 ≤ y → Performed l E m m (Refused 21)
-    no_number h = refuses E S 21 (code₁ ∙ if_neg (dec_lt (P.tab usg).next 4294967295) (λ z. absurd (omega (arith, z, h, Y.is))) 0 21) (λ z. absurd (omega (arith, z)))
+    pub no_number : 4294967295 ≤ y → Performed l E m m (Err NoNumber)
+    no_number h = refuses E S NoNumber (code₁ ∙ if_neg (dec_lt (P.tab usg).next 4294967295) (λ z. absurd (omega (arith, z, h, Y.is))) 0 21)
 
-    module _ (y< : y < 4294967295) (u : ℕ) (N : NthIs l slots s i m u) where
+    module _ (y< : y < 4294967295) {u : ℕ} (N : NthIs l slots s i m u) where
       code₂ : refusal_of (meaning P) E ≡ 0
       code₂ = code₁ ∙ if_pos (dec_lt (P.tab usg).next 4294967295) (omega (arith, y<, Y.is)) 0 21
 
@@ -101,9 +102,9 @@ module _ {l : Layout} {m : List ℕ} (S : SoundStore l m) (sl : Slot) (n i d s k
             subst (Settles P) (sym R.state)
             (settles_birth_use (con l slots s) i (con l use_sets k) l.uses p (subst (Settles P) (sym left) (settles_end_use H.slot H.def (usg, u) P)) (lowest_free (state_of l m₁) usg p R.dead R.lowest))
 
-        pub replaced : {m₂ : List ℕ} (p : ℕ) → BorneUse l s i k m₁ m₂ p → Performed l E m m₂ (Accepted 0 0)
+        pub replaced : {m₂ : List ℕ} {p : ℕ} → BorneUse l s i k m₁ m₂ p → Performed l E m m₂ (Ok (0, 0))
         unfolding answer clean found
-        replaced {m₂} p R =
+        replaced {m₂} {p} R =
             accepts E R.sound code₂
             (ap meaning (R.state ∙ ap₂ (λ (a b : Con). birth_use a i b l.uses p (state_of l m₁)) A.row B.row ∙ ap (birth_use (slot_role sl, (op, A.place)) i (def_role sl, (def_kind sl, B.place)) l.uses p) left)
             ∙ replace_accept S.sound sl A.place i u A.live inside at B.place l.uses p (rw left at R.dead) (rw (left_cap S.sound sl A.place i u A.live inside at usg, cap_is l m) R.room) B.live

@@ -10,10 +10,11 @@ use Rattle.edit.specs.Record.{successor, Definition, of_value, of_block, Edit, r
 use Rattle.edit.specs.Taken.{edit_of}
 use Rattle.edit.proofs.ByKind.{kinds}
 use Rattle.edit.specs.Answer.{clean, found}
-use Rattle.edit.specs.declared.Answer.TheVariants.{Accepted, Refused}
+use Rattle.std.proofs.Common.{Ok, Err}
+use Rattle.edit.specs.declared.Refusal.TheVariants.{StrayUser}
 use Rattle.rules.specs.Table.{Table, change_all}
 use Rattle.rules.specs.History.{same_definition}
-use Rattle.rules.specs.Refusal.{check, from_state, refusal_of}
+use Rattle.rules.specs.Refusal.{check, from_state, refusal_of, named, definition_named}
 use Rattle.rules.specs.Verdict.{sight, stray_user}
 use Rattle.rules.specs.Step.{answer}
 use Rattle.places.specs.Store.{blk, use_sets, Con, State, Live}
@@ -35,10 +36,9 @@ use Rattle.uses.specs.Look.{DefAt}
 use Rattle.uses.specs.Retarget.{RetargetedAll}
 use Rattle.context.proofs.Families.{con_back}
 use Rattle.context.proofs.Performing.{refuses, accepts}
-use Rattle.uses.proofs.Looking.{names_retarget}
 
-pub retarget_edit : (fs : List ℕ) (a b : ℕ) → a ≡ get_or fs 0 0 → b ≡ get_or fs 1 0 → retarget_some a b (drop 2 fs) ≡ edit_of 35 fs
-retarget_edit fs a b p q = ap₂ (λ (x y : ℕ). retarget_some x y (drop 2 fs)) p q ∙ sym (kinds fs).some_predecessors
+pub retarget_edit : (fs : List ℕ) {a b : ℕ} → a ≡ get_or fs 0 0 → b ≡ get_or fs 1 0 → retarget_some a b (drop 2 fs) ≡ edit_of 35 fs
+retarget_edit fs p q = ap₂ (λ (x y : ℕ). retarget_some x y (drop 2 fs)) p q ∙ sym (kinds fs).some_predecessors
 
 -- ---- uses placed where they are
 
@@ -77,7 +77,7 @@ module _ {l : Layout} {m : List ℕ} {n d : ℕ} (A : DefAt l m successor n d) w
 
 -- ---- the edit
 
-module _ {l : Layout} {m : List ℕ} (S : SoundStore l m) (a b d e : ℕ) (A : DefAt l m successor a d) (B : DefAt l m successor b e) (ps : List ℕ) (r : Bool) (R : r ≡ place_stray_user (state_of l m) (blk, d - l.values)) where
+module _ {l : Layout} {m : List ℕ} (S : SoundStore l m) {a b d e : ℕ} (A : DefAt l m successor a d) (B : DefAt l m successor b e) (ps : List ℕ) {r : Bool} (R : r ≡ place_stray_user (state_of l m) (blk, d - l.values)) where
   abbrev P : State
   P = state_of l m
 
@@ -93,19 +93,19 @@ module _ {l : Layout} {m : List ℕ} (S : SoundStore l m) (a b d e : ℕ) (A : D
       ∙ sym R
 
   code : refusal_of (meaning P) E ≡ check r 18 0
-  unfolding from_state
-  code = definitions_there S.sound E successor A.place a A.live A.number b B.place (names_retarget a b ps) B.live B.number ∙ ap (λ (t : Bool). check t 18 0) stray_is
+  unfolding from_state named definition_named
+  code = definitions_there S.sound E successor A.place a A.live A.number b B.place refl B.live B.number ∙ ap (λ (t : Bool). check t 18 0) stray_is
 
-  pub is_stray : r ≡ true → Performed l E m m (Refused 18)
+  pub is_stray : r ≡ true → Performed l E m m (Err StrayUser)
   unfolding check
-  is_stray t = refuses E S 18 (code ∙ ap (λ (x : Bool). check x 18 0) t) (λ z. absurd (omega (arith, z)))
+  is_stray t = refuses E S StrayUser (code ∙ ap (λ (x : Bool). check x 18 0) t)
 
   module _ (f : r ≡ false) where
     code₀ : refusal_of (meaning P) E ≡ 0
     unfolding check
     code₀ = code ∙ ap (λ (x : Bool). check x 18 0) f
 
-    pub same_block : d ≡ e → Performed l E m m (Accepted 0 0)
+    pub same_block : d ≡ e → Performed l E m m (Ok (0, 0))
     unfolding answer clean found
     same_block q =
         let same : a ≡ b = sym A.number ∙ ap (λ (c : Con). num P c.1) (sym A.row ∙ ap (con l use_sets) q ∙ B.row) ∙ B.number in
@@ -116,6 +116,6 @@ module _ {l : Layout} {m : List ℕ} (S : SoundStore l m) (a b d e : ℕ) (A : D
         ∙ rehold_self (meaning P))))
         refl (settles_same (λ k. refl)) 0 0 refl
 
-    pub retargeted : {m' : List ℕ} → RetargetedAll l d e ps m m' → Performed l E m m' (Accepted 0 0)
+    pub retargeted : {m' : List ℕ} → RetargetedAll l d e ps m m' → Performed l E m m' (Ok (0, 0))
     unfolding answer clean found
     retargeted Q = accepts E Q.sound code₀ (Q.state a b A B) Q.rest (settles_same Q.tables) 0 0 refl

@@ -1,12 +1,14 @@
 -- The uses of a block at operations of listed blocks move to another block, in one pass over them. Assumes nothing.
 use mathlib.Core.Path.{◌≡◌, refl, sym, ap, ap₂, ◌∙◌, subst, fun_ext}
 use mathlib.Core.Logic.{◌≢◌, by_cases, ⊎_elim, if_pos, if_neg}
-use mathlib.Core.Bool.{true, false}
+use mathlib.Core.Bool.{Bool, true, false}
 use mathlib.Core.List.{List, [], ◌∷◌, ◌++◌}
 use mathlib.Core.Option.{Option, none, some}
 use native.Mathlib.Decide.{ℕ_discrete}
 use native.Mathlib.Omega.{arith}
-use Prim.Native.Nat.{ℕ, ◌-◌, ◌<◌, ◌≤◌}
+use Prim.Native.Nat.{ℕ, ◌<◌, ◌≤◌}
+use Rattle.std.specs.Prelude as Rust
+use Rattle.std.specs.Prelude.{Some, None}
 use Rattle.seqs.specs.Seqs.{count, In, seq_insert_at, without}
 use Rattle.seqs.proofs.Base.{tick_yes, tick_no, count_append, in_head}
 use Rattle.edit.specs.Record.{successor, of_block}
@@ -33,7 +35,7 @@ use Rattle.uses.specs.Retarget.{marked, Marks, RetargetedOne, RetargetedAll}
 use Rattle.uses.proofs.Choosing.{stands_in_list, chosen_listed}
 use Rattle.uses.proofs.Looking.{same_row}
 use Rattle.uses.proofs.Placing.{num_move, def_kept}
-use Rattle.context.proofs.Cursor.{row, ahead, At, Here, first_at, here, at_end, next_code, next_at, less}
+use Rattle.context.proofs.Cursor.{row, ahead, At, Here, first_at, here, at_end, next_first, next_at, less}
 
 -- ---- a list without one that stands in it once
 
@@ -105,11 +107,11 @@ unfoldable pub whole : List ℕ → ℕ → ℕ → RState → RState
 whole ps a b s = rehold (placed (of_block a) (of_block b) (chosen s.history ps) s.history.uses) s
 
 -- marks speak of the table of blocks alone
-marks_kept : {l : Layout} {ps w m m' : List ℕ} → ((k : Kind) → (state_of l m').tab k ≡ (state_of l m).tab k) → Marks l ps m w → Marks l ps m' w
+marks_kept : {l : Layout} {ps m m' : List ℕ} {w : List Bool} → ((k : Kind) → (state_of l m').tab k ≡ (state_of l m).tab k) → Marks l ps m w → Marks l ps m' w
 unfolding alive
-marks_kept {l} {ps} {w} same M = record { long = M.long; is = subst (λ (t : Table). (b : ℕ) → 0 < count ℕ_discrete b t.order → marked w b ≡ member (t.num b) ps) (sym (same blk)) M.is }
+marks_kept {l} {ps} {m} {m'} {w} same M = record { long = M.long; is = subst (λ (t : Table). (b : ℕ) → 0 < count ℕ_discrete b t.order → marked w b ≡ member (t.num b) ps) (sym (same blk)) M.is }
 
-pub record Going (l : Layout) (d e : ℕ) (ps w m₀ : List ℕ) (k : ℕ) (m : List ℕ) : Type 0 where
+pub record Going (l : Layout) (d e : ℕ) (ps : List ℕ) (w : List Bool) (m₀ : List ℕ) (k : Rust.Option ℕ) (m : List ℕ) : Type 0 where
   pub sound : SoundStore l m
   pub rest : part l m 14 ≡ part l m₀ 14
   pub tables : (k : Kind) → (state_of l m).tab k ≡ (state_of l m₀).tab k
@@ -121,18 +123,18 @@ pub record Going (l : Layout) (d e : ℕ) (ps w m₀ : List ℕ) (k : ℕ) (m : 
   pub passed : (y : Thing) → In Thing-dec y at.done → stands_in_list (state_of l m) ps y ≡ false
   pub left : (a b : ℕ) → DefAt l m₀ successor a d → DefAt l m₀ successor b e → whole ps a b (meaning (state_of l m)) ≡ whole ps a b (meaning (state_of l m₀))
 
-pub begins : {l : Layout} {d e : ℕ} {ps w m : List ℕ} (k : ℕ) → SoundStore l m → Between l m successor d e → Marks l ps m w → FirstIs l use_sets d m k → Going l d e ps w m k m
+pub begins : {l : Layout} {d e : ℕ} {ps m : List ℕ} {w : List Bool} {k : Rust.Option ℕ} → SoundStore l m → Between l m successor d e → Marks l ps m w → FirstIs l use_sets d m k → Going l d e ps w m k m
 unfolding first_at
-begins k S W M F = record { sound = S; rest = refl; tables = λ k. refl; between = W; marks = M; kept = λ n f A. A; at = first_at k F; passed = λ y i. absurd (omega (arith, i)); left = λ a b A B. refl }
+begins S W M F = record { sound = S; rest = refl; tables = λ k. refl; between = W; marks = M; kept = λ n f A. A; at = first_at F; passed = λ y i. absurd (omega (arith, i)); left = λ a b A B. refl }
 
-module _ {l : Layout} {d e : ℕ} {ps w m₀ : List ℕ} {k : ℕ} {m : List ℕ} (G : Going l d e ps w m₀ k m) (h : k ≡ 0 → ⊥) where
+module _ {l : Layout} {d e : ℕ} {ps : List ℕ} {w : List Bool} {m₀ : List ℕ} {k : Rust.Option ℕ} {m : List ℕ} (G : Going l d e ps w m₀ k m) {p : ℕ} (h : k ≡ Some p) where
   abbrev S : State
   S = state_of l m
 
   abbrev v : Thing
-  v = (usg, k - 1)
+  v = (usg, p)
 
-  abbrev H : Here l use_sets d m k G.at.todo
+  abbrev H : Here l use_sets d m p G.at.todo
   H = here G.sound G.at h
 
   K : UseHeld (S.own v)
@@ -141,13 +143,13 @@ module _ {l : Layout} {d e : ℕ} {ps w m₀ : List ℕ} {k : ℕ} {m : List ℕ
   fits : Fit K.slot.0 block_uses
   fits = subst (λ (c : Con). Fit K.slot.0 c.0) (some_inj (sym K.in_def ∙ H.own) ∙ G.between.from.row) K.fit
 
-  pub can_move : CanMove S (k - 1) (con l use_sets e)
+  pub can_move : CanMove S p (con l use_sets e)
   can_move = rw G.between.to.row (record { live = H.live; fit = λ s q. subst (λ (c : Con). Fit c.0 block_uses) (some_inj (sym K.in_slot ∙ q)) fits; home = G.between.to.live })
 
   split : row l use_sets d m ≡ G.at.done ++ v ∷ H.later
   split = G.at.parts ∙ ap {B = List Thing} (λ (t : List Thing). G.at.done ++ t) H.is
 
-  module _ (apart : d ≢ e) (j : ℕ) (N : NextIs l use_sets (k - 1) m j) where
+  module _ (apart : d ≢ e) {j : Rust.Option ℕ} (N : NextIs l use_sets p m j) where
     abbrev Next : List ℕ → Type 0
     Next m' = Going l d e ps w m₀ j m' × (ahead l use_sets d m' j < ahead l use_sets d m k)
 
@@ -155,7 +157,7 @@ module _ {l : Layout} {d e : ℕ} {ps w m₀ : List ℕ} {k : ℕ} {m : List ℕ
     stays : stands_in_list S ps v ≡ false → Next m
     unfolding next_at
     stays n =
-        let A : At l use_sets d m j = next_at G.sound G.at h j N in
+        let A : At l use_sets d m j = next_at G.sound G.at h N in
         (record { sound = G.sound; rest = G.rest; tables = G.tables; between = G.between; marks = G.marks; kept = G.kept; at = A; passed = by; left = G.left }, less G.sound G.at h G.sound A refl)
       where
         by : (y : Thing) → In Thing-dec y (G.at.done ++ v ∷ []) → stands_in_list S ps y ≡ false
@@ -164,7 +166,7 @@ module _ {l : Layout} {d e : ℕ} {ps w m₀ : List ℕ} {k : ℕ} {m : List ℕ
             (λ q. G.passed y (omega (arith, i, count_append Thing-dec y G.at.done (v ∷ []), tick_no (Thing-dec y v) q)))
 
     -- it moves
-    module _ {m' : List ℕ} (y : stands_in_list S ps v ≡ true) (M : Moved l (k - 1) e m m') where
+    module _ {m' : List ℕ} (y : stands_in_list S ps v ≡ true) (M : Moved l p e m m') where
       c≢ : con l use_sets d ≢ con l use_sets e
       c≢ q = apart (same_row l d e q)
 
@@ -180,19 +182,19 @@ module _ {l : Layout} {d e : ℕ} {ps w m₀ : List ℕ} {k : ℕ} {m : List ℕ
       row' : row l use_sets d m' ≡ G.at.done ++ H.later
       row' =
           ap (λ (Z : State). Z.list (con l use_sets d).1 (con l use_sets d).0) state
-          ∙ list_less S (con l use_sets d) (con l use_sets e) l.uses (k - 1) in_d in_e c≢
+          ∙ list_less S (con l use_sets d) (con l use_sets e) l.uses p in_d in_e c≢
           ∙ ap (without Thing-dec v) split
           ∙ without_one v G.at.done H.later (omega (arith, once G.sound.sound.linked v use_sets (con l use_sets d) H.own, ap (count Thing-dec v) split))
 
       at' : At l use_sets d m' j
-      at' = record { done = G.at.done; todo = H.later; parts = row'; code = next_code G.sound G.at h j N }
+      at' = record { done = G.at.done; todo = H.later; parts = row'; first = next_first G.sound G.at h N }
 
       left' : (a b : ℕ) → DefAt l m successor a d → DefAt l m successor b e → whole ps a b (meaning (state_of l m')) ≡ whole ps a b (meaning S)
       unfolding whole
       left' a b A B =
           ap (λ (Z : State). whole ps a b (meaning Z)) (M.state (block_uses, (blk, A.place)) (H.own ∙ ap (λ (c : Con). some c) A.row) ∙ ap (λ (c : Con). place_move_use (block_uses, (blk, A.place)) c l.uses v S) B.row)
           ∙ ap₂ (λ (y z : ℕ). whole ps y z (meaning (place_move_use (block_uses, (blk, A.place)) (block_uses, (blk, B.place)) l.uses v S))) (sym A.number) (sym B.number)
-          ∙ still_left G.sound.sound ps A.place B.place (k - 1) l.uses A.live B.live H.live (H.own ∙ ap (λ (c : Con). some c) A.row) y
+          ∙ still_left G.sound.sound ps A.place B.place p l.uses A.live B.live H.live (H.own ∙ ap (λ (c : Con). some c) A.row) y
           ∙ ap₂ (λ (y z : ℕ). whole ps y z (meaning S)) A.number B.number
 
       moves : Next m'
@@ -206,7 +208,7 @@ module _ {l : Layout} {d e : ℕ} {ps w m₀ : List ℕ} {k : ℕ} {m : List ℕ
           marks = marks_kept (λ k. ap (λ (Q : State). Q.tab k) state ∙ tables_move (con l use_sets d) (con l use_sets e) l.uses v S k) G.marks;
           kept = λ n f A. keeps n f (G.kept n f A);
           at = at';
-          passed = λ z i. ap (λ (Z : State). stands_in_list Z ps z) state ∙ stands_kept S (con l use_sets d) (con l use_sets e) l.uses (k - 1) in_d in_e ps z ∙ G.passed z i;
+          passed = λ z i. ap (λ (Z : State). stands_in_list Z ps z) state ∙ stands_kept S (con l use_sets d) (con l use_sets e) l.uses p in_d in_e ps z ∙ G.passed z i;
           left = λ a b A B. left' a b (G.kept a d A) (G.kept b e B) ∙ G.left a b A B;
         },
         less G.sound G.at h M.sound at' refl,
@@ -215,11 +217,11 @@ module _ {l : Layout} {d e : ℕ} {ps w m₀ : List ℕ} {k : ℕ} {m : List ℕ
           keeps : (n f : ℕ) → DefAt l m successor n f → DefAt l m' successor n f
           keeps = def_kept H.own M successor
 
-    pub goes_on : {m' : List ℕ} → RetargetedOne l e (k - 1) w m m' → Next m'
+    pub goes_on : {m' : List ℕ} → RetargetedOne l e p w m m' → Next m'
     goes_on (RetargetedOne.moved C M) = moves (chosen_listed G.sound G.marks C) M
     goes_on (RetargetedOne.stayed C) = stays (chosen_listed G.sound G.marks C)
 
-pub all_passed : {l : Layout} {d e : ℕ} {ps w m₀ : List ℕ} {k : ℕ} {m : List ℕ} → Going l d e ps w m₀ k m → k ≡ 0 → RetargetedAll l d e ps m₀ m
+pub all_passed : {l : Layout} {d e : ℕ} {ps : List ℕ} {w : List Bool} {m₀ : List ℕ} {k : Rust.Option ℕ} {m : List ℕ} → Going l d e ps w m₀ k m → k ≡ None → RetargetedAll l d e ps m₀ m
 unfolding whole
 all_passed {l} {d} {e} {ps} {w} {m₀} {k} {m} G z = record { sound = G.sound; rest = G.rest; tables = G.tables; state = λ a b A B. retarget_accept (state_of l m₀) (state_of l m) G.sound.sound a b ps (sym (none a b (G.kept a d A)) ∙ G.left a b A B) }
   where

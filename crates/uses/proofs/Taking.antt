@@ -1,15 +1,16 @@
 -- Remove and pop, each way out; and the use that is taken out. Assumes nothing.
 use mathlib.Core.Path.{◌≡◌, refl, sym, ap, ◌∙◌, subst}
 use mathlib.Core.List.{List}
-use mathlib.Core.Option.{some}
-use Prim.Native.Nat.{ℕ, zero, suc, ◌-◌, ◌≤◌, ◌<◌}
+use Prim.Native.Nat.{ℕ, ◌-◌, ◌≤◌, ◌<◌}
 use native.Mathlib.Omega.{arith}
 use lib.Dec.{leb, eqb}
 use lib.ListN.{length, get_or}
 use borrow.Author.Tests.{le-leb, lt-leb, eq-eqb, ne_eqb}
+use Rattle.std.proofs.Common.{Option, Some, None, Ok, Err}
+use Rattle.std.specs.Prelude.{IsSome}
 use Rattle.edit.specs.Record.{Slot, remove_use, pop_use}
 use Rattle.edit.specs.Answer.{found}
-use Rattle.edit.specs.declared.Answer.TheVariants.{Accepted, Refused}
+use Rattle.edit.specs.declared.Refusal.TheVariants.{NoIndex}
 use Rattle.rules.specs.State.{accept}
 use Rattle.rules.specs.Refusal.{named, check, refusal_of}
 use Rattle.places.specs.Store.{op, usg, slots, use_sets, Con, State, Live, UseHeld}
@@ -19,48 +20,34 @@ use Rattle.places.specs.View.{num}
 use Rattle.places.specs.Parts.{con_of}
 use Rattle.places.specs.Roles.{slot_role}
 use Rattle.places.specs.Settled.{Settles}
-use Rattle.places.proofs.Steps.{some_inj, some_none}
+use Rattle.places.proofs.Steps.{some_none}
 use Rattle.places.proofs.Settling.{settles_end_use}
 use Rattle.places.proofs.RuleEnds.{at_live, at_held, at_number, remove_accept, pop_accept}
 use Rattle.places.proofs.RuleCodes.{only_operation, remove_code, pop_code, remove_answer, pop_answer}
 use Rattle.context.specs.declared.Layout.{Layout}
-use Rattle.context.specs.Memory.{con, decode, state_of, SoundStore, LengthIs, HomeIs}
+use Rattle.context.specs.Memory.{con, given, state_of, SoundStore, LengthIs, HomeIs}
 use Rattle.context.specs.Reading.{NthIs}
-use Rattle.context.specs.Steps.{EndedUse}
 use Rattle.context.specs.Performed.{Performed}
-use Rattle.uses.specs.Look.{SlotAt, DefNumberIs, Taken}
+use Rattle.uses.specs.Look.{SlotAt, Taken}
 use Rattle.context.proofs.Performing.{refuses, accepts}
 
 -- ---- the use at an index, and its definition
 
--- a use that lives stands in a set
-pub held_at : {l : Layout} {m : List ℕ} → SoundStore l m → (u h : ℕ) → Live (state_of l m) (usg, u) → HomeIs l use_sets u m h → (h ≡ suc (h - 1)) × ((state_of l m).own (usg, u) use_sets ≡ some (con l use_sets (h - 1)))
-held_at {l} {m} S u h live H = go h H.own
-  where
-    held : UseHeld ((state_of l m).own (usg, u))
-    held = S.sound.placed (usg, u) live
+module _ {l : Layout} {m : List ℕ} (S : SoundStore l m) {u : ℕ} where
+  pub nth_live : {s i : ℕ} → NthIs l slots s i m u → Live (state_of l m) (usg, u)
+  nth_live {s} N = (S.sound.linked.link (usg, u) slots (con l slots s) N.own).live
 
-    go : (h : ℕ) → (state_of l m).own (usg, u) use_sets ≡ con_of (con l use_sets) (decode h) → (h ≡ suc (h - 1)) × ((state_of l m).own (usg, u) use_sets ≡ some (con l use_sets (h - 1)))
-    go zero e = absurd (some_none held.in_def e)
-    go (suc k) e = let z : k ≡ suc k - 1 = omega arith in (omega arith, e ∙ ap (λ (j : ℕ). some (con l use_sets j)) z)
+  -- a use that lives stands in a set, of a definition that lives
+  pub held : Live (state_of l m) (usg, u) → (h : Option ℕ) → HomeIs l use_sets u m h → IsSome h
+  held L None H = absurd (some_none (S.sound.placed (usg, u) L).in_def H.own)
+  held L (Some d) H = refl
 
-module _ {l : Layout} {m : List ℕ} (S : SoundStore l m) (s i u : ℕ) (N : NthIs l slots s i m u) where
-  pub nth_live : Live (state_of l m) (usg, u)
-  nth_live = (S.sound.linked.link (usg, u) slots (con l slots s) N.own).live
-
-  module _ (h : ℕ) (H : HomeIs l use_sets u m h) where
-    pub home_pos : 1 ≤ h
-    home_pos = omega (arith, (held_at S u h nth_live H).0)
-
-    pub def_live : Live (state_of l m) (con l use_sets (h - 1)).1
-    def_live = (S.sound.linked.link (usg, u) use_sets (con l use_sets (h - 1)) (held_at S u h nth_live H).1).home
-
-    pub taken : {m' : List ℕ} (r : ℕ) → DefNumberIs l (h - 1) m r → EndedUse l u m m' → Taken l s i m m' r
-    taken r D E = record { place = u; at = N.is; ended = E; number = λ d e. D.is ∙ ap (λ (c : Con). num (state_of l m) c.1) (some_inj (sym (held_at S u h nth_live H).1 ∙ e)) }
+  pub def_live : {h : Option ℕ} {d : ℕ} → HomeIs l use_sets u m h → h ≡ Some d → Live (state_of l m) (con l use_sets d).1
+  def_live {h} {d} H e = (S.sound.linked.link (usg, u) use_sets (con l use_sets d) (H.own ∙ ap (λ (h : Option ℕ). con_of (con l use_sets) (given h)) e)).home
 
 -- ---- the edits
 
-module _ {l : Layout} {m : List ℕ} (S : SoundStore l m) (sl : Slot) (n s : ℕ) (A : SlotAt l m sl n s) (x : ℕ) (X : LengthIs l slots s m x) where
+module _ {l : Layout} {m : List ℕ} (S : SoundStore l m) {sl : Slot} {n s : ℕ} (A : SlotAt l m sl n s) {x : ℕ} (X : LengthIs l slots s m x) where
   abbrev P : State
   P = state_of l m
 
@@ -75,15 +62,15 @@ module _ {l : Layout} {m : List ℕ} (S : SoundStore l m) (sl : Slot) (n s : ℕ
   unfolding named
   pop_refusal = only_operation S.sound (pop_use sl n) A.place n A.live A.number refl ∙ pop_code S.sound sl A.place n A.live A.number ∙ ap (λ (a : ℕ). check (eqb a 0) 12 0) (sym long)
 
-  pub remove_refused : (i : ℕ) → x ≤ i → Performed l (remove_use sl n i) m m (Refused 12)
+  pub remove_refused : {i : ℕ} → x ≤ i → Performed l (remove_use sl n i) m m (Err NoIndex)
   unfolding check
-  remove_refused i h = refuses (remove_use sl n i) S 12 (remove_refusal i ∙ ap (λ b. check b 12 0) (le-leb x i h)) (λ z. absurd (omega (arith, z)))
+  remove_refused {i} h = refuses (remove_use sl n i) S NoIndex (remove_refusal i ∙ ap (λ b. check b 12 0) (le-leb x i h))
 
-  pub pop_refused : x ≡ 0 → Performed l (pop_use sl n) m m (Refused 12)
+  pub pop_refused : x ≡ 0 → Performed l (pop_use sl n) m m (Err NoIndex)
   unfolding check
-  pop_refused h = refuses (pop_use sl n) S 12 (pop_refusal ∙ ap (λ b. check b 12 0) (eq-eqb x 0 h)) (λ z. absurd (omega (arith, z)))
+  pop_refused h = refuses (pop_use sl n) S NoIndex (pop_refusal ∙ ap (λ b. check b 12 0) (eq-eqb x 0 h))
 
-  module _ (i : ℕ) (i< : i < x) {m' : List ℕ} (r : ℕ) (T : Taken l s i m m' r) where
+  module _ {i : ℕ} (i< : i < x) {m' : List ℕ} {r : ℕ} (T : Taken l s i m m' r) where
     abbrev q : ℕ
     q = T.place
 
@@ -105,7 +92,7 @@ module _ {l : Layout} {m : List ℕ} (S : SoundStore l m) (sl : Slot) (n s : ℕ
     settled : Settles P (state_of l m')
     settled = subst (Settles P) (sym gone) (settles_end_use H.slot H.def (usg, q) P)
 
-    pub removed : Performed l (remove_use sl n i) m m' (Accepted r 0)
+    pub removed : Performed l (remove_use sl n i) m m' (Ok (r, 0))
     unfolding check H
     removed =
         accepts (remove_use sl n i) T.ended.sound (remove_refusal i ∙ ap (λ b. check b 12 0) (lt-leb x i i<))
@@ -113,7 +100,7 @@ module _ {l : Layout} {m : List ℕ} (S : SoundStore l m) (sl : Slot) (n s : ℕ
         T.ended.rest settled r 0
         (remove_answer S.sound sl A.place n A.live A.number i q (at_live S.sound sl A.place i q A.live inside at) (at_number S.sound sl A.place i q A.live inside at) H.def H.in_def (accept (remove_use sl n i) (meaning P)).history ∙ ap (λ (a : ℕ). found a 0) number_is)
 
-    pub popped : i ≡ x - 1 → Performed l (pop_use sl n) m m' (Accepted r 0)
+    pub popped : i ≡ x - 1 → Performed l (pop_use sl n) m m' (Ok (r, 0))
     unfolding check H
     popped e =
         accepts (pop_use sl n) T.ended.sound (pop_refusal ∙ ap (λ b. check b 12 0) (ne_eqb x 0 (λ z. absurd (omega (arith, z, i<)))))

@@ -1,6 +1,8 @@
 -- The uses of a block at operations of listed blocks move to another block: the listed blocks are marked, and then the uses are passed once.
 -- Assumes nothing: these are definitions.
-use Rattle.std.specs.Prelude.{◌≡◌, Bool, true, false, ◌||◌, List, ℕ, zero, suc, eqb, length, get_or}
+use Rattle.std.specs.Prelude.{◌≡◌, Bool, true, false, ◌||◌, List, ℕ, eqb, length, get_or}
+use Rattle.std.specs.Prelude as Rust
+use Rattle.std.specs.Prelude.{Some, None}
 use Rattle.std.proofs.Math.Option.{Option, none, some}
 use Rattle.edit.specs.Record.{successor, retarget_some}
 use Rattle.rules.specs.Table.{member}
@@ -13,43 +15,43 @@ use Rattle.context.specs.Memory.{part, state_of, SoundStore}
 use Rattle.context.specs.Steps.{Moved}
 use Rattle.uses.specs.Look.{DefAt}
 
--- the block at a place + 1, and none for 0
-abbrev pub block_by : ℕ → Option Thing
-block_by zero = none
-block_by (suc b) = some (blk, b)
+-- the block at a place
+abbrev pub block_by : Rust.Option ℕ → Option Thing
+block_by None = none
+block_by (Some b) = some (blk, b)
 
--- r stands for the block of the operation at which the use at the place u stands
-pub record BlockOf (l : Layout) (u : ℕ) (m : List ℕ) (r : ℕ) : Type 0 where
+-- r is the block of the operation at which the use at the place u stands
+pub record BlockOf (l : Layout) (u : ℕ) (m : List ℕ) (r : Rust.Option ℕ) : Type 0 where
   pub user : Thing
   pub at : outer ((state_of l m).own (usg, u) slots) ≡ some user
   pub is : up (state_of l m) user ≡ block_by r
 
 -- is the block at the place b marked?
-abbrev pub marked : List ℕ → ℕ → Bool
-marked w b = eqb (get_or w b 0) 1
+abbrev pub marked : List Bool → ℕ → Bool
+marked w b = get_or w b false
 
 -- the block with the number x was marked
-pub record MarkedOne (l : Layout) (x : ℕ) (m w w' : List ℕ) : Type 0 where
+pub record MarkedOne (l : Layout) (x : ℕ) (m : List ℕ) (w w' : List Bool) : Type 0 where
   pub is : (b : ℕ) → Live (state_of l m) (blk, b) → marked w' b ≡ (marked w b || eqb x (num (state_of l m) (blk, b)))
 
 -- those with a listed number are marked
-pub record Marks (l : Layout) (ps m w : List ℕ) : Type 0 where
+pub record Marks (l : Layout) (ps m : List ℕ) (w : List Bool) : Type 0 where
   pub long : length w ≡ 1024
   pub is : (b : ℕ) → Live (state_of l m) (blk, b) → marked w b ≡ member (num (state_of l m) (blk, b)) ps
 
--- a place + 1 of a marked block?
-abbrev pub marked_by : List ℕ → ℕ → Bool
-marked_by w zero = false
-marked_by w (suc b) = marked w b
+-- a marked block?
+abbrev pub marked_by : List Bool → Rust.Option ℕ → Bool
+marked_by w None = false
+marked_by w (Some b) = marked w b
 
 -- does the use stand at an operation of a marked block?
-pub record Chosen (l : Layout) (u : ℕ) (w m : List ℕ) (r : Bool) : Type 0 where
-  pub block : ℕ
+pub record Chosen (l : Layout) (u : ℕ) (w : List Bool) (m : List ℕ) (r : Bool) : Type 0 where
+  pub block : Rust.Option ℕ
   pub at : BlockOf l u m block
   pub is : r ≡ marked_by w block
 
 -- the use at the place u moved to the set e, if it is at an operation of a marked block
-pub data RetargetedOne (l : Layout) (e u : ℕ) (w m : List ℕ) : List ℕ → Type 0 where
+pub data RetargetedOne (l : Layout) (e u : ℕ) (w : List Bool) (m : List ℕ) : List ℕ → Type 0 where
   moved : {m' : List ℕ} → Chosen l u w m true → Moved l u e m m' → RetargetedOne l e u w m m'
   stayed : Chosen l u w m false → RetargetedOne l e u w m m
 

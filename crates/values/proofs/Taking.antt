@@ -1,8 +1,7 @@
 -- Remove and pop, each way out. Assumes nothing.
 use mathlib.Core.Path.{◌≡◌, refl, sym, ap, ap₂, ◌∙◌, subst}
-use mathlib.Core.Logic.{◌≢◌}
 use mathlib.Core.Bool.{Bool}
-use mathlib.Core.List.{List, [], ◌∷◌}
+use mathlib.Core.List.{List}
 use Prim.Native.Nat.{ℕ, ◌-◌, ◌≤◌, ◌<◌}
 use native.Mathlib.Omega.{arith}
 use lib.Dec.{leb, eqb, ltb}
@@ -10,9 +9,12 @@ use lib.ListN.{length, get_or}
 use borrow.Author.Tests.{le-leb, lt-leb, eq-eqb, ne_eqb, lt-ltb}
 use Rattle.edit.specs.Record.{Member, Edit, remove_value, pop_value}
 use Rattle.edit.specs.Answer.{clean, found}
-use Rattle.edit.specs.declared.Answer.TheVariants.{Accepted, Refused}
+use Rattle.std.proofs.Common.{Result, Ok, Err}
+use Rattle.edit.specs.declared.Refusal.{Refusal}
+use Rattle.edit.specs.declared.Refusal.TheVariants.{NoIndex}
+use Rattle.edit.specs.Kinds.{number_of}
 use Rattle.rules.specs.State.{accept}
-use Rattle.rules.specs.Refusal.{member_named, named, check, value_used, refusal_of}
+use Rattle.rules.specs.Refusal.{named, check, value_used, refusal_of}
 use Rattle.rules.specs.Step.{answer}
 use Rattle.places.specs.Store.{val, value_uses, vals, Thing, Con, State, end, leave}
 use Rattle.places.specs.Hist.{meaning}
@@ -27,22 +29,14 @@ use Rattle.context.specs.Performed.{Performed}
 use Rattle.values.specs.Look.{ValuesAt, TakenValue}
 use Rattle.context.proofs.Performing.{refuses, accepts}
 
-pub names_remove : (w : Member) (n i : ℕ) → named (remove_value w n i) ≡ member_named w n ∷ []
-unfolding named
-names_remove w n i = refl
-
-pub names_pop : (w : Member) (n : ℕ) → named (pop_value w n) ≡ member_named w n ∷ []
-unfolding named
-names_pop w n = refl
-
-module _ {l : Layout} {m : List ℕ} (S : SoundStore l m) (w : Member) (n k : ℕ) (A : ValuesAt l m w n k) (x : ℕ) (X : LengthIs l vals k m x) where
+module _ {l : Layout} {m : List ℕ} (S : SoundStore l m) {w : Member} {n k : ℕ} (A : ValuesAt l m w n k) {x : ℕ} (X : LengthIs l vals k m x) where
   abbrev P : State
   P = state_of l m
 
   abbrev used? : ℕ → Bool
   used? i = value_used (meaning P).history w n i
 
-  pub long : x ≡ length (P.list (member_kind w, A.place) (value_role w))
+  long : x ≡ length (P.list (member_kind w, A.place) (value_role w))
   long = X.is ∙ ap (λ (r : Con). length (P.list r.1 r.0)) A.row
 
   remove_refusal : (i : ℕ) → refusal_of (meaning P) (remove_value w n i) ≡ check (leb x i) 12 (check (used? i) 13 0)
@@ -53,15 +47,15 @@ module _ {l : Layout} {m : List ℕ} (S : SoundStore l m) (w : Member) (n k : �
   unfolding named
   pop_refusal = owner_there S.sound (pop_value w n) w n A.place A.live A.number refl ∙ pop_value_code S.sound w A.place n A.live A.number ∙ ap (λ (a : ℕ). check (eqb a 0) 12 (check (used? (a - 1)) 13 0)) (sym long)
 
-  pub remove_past : (i : ℕ) → x ≤ i → Performed l (remove_value w n i) m m (Refused 12)
+  pub remove_past : {i : ℕ} → x ≤ i → Performed l (remove_value w n i) m m (Err NoIndex)
   unfolding check
-  remove_past i h = refuses (remove_value w n i) S 12 (remove_refusal i ∙ ap (λ b. check b 12 (check (used? i) 13 0)) (le-leb x i h)) (λ z. absurd (omega (arith, z)))
+  remove_past {i} h = refuses (remove_value w n i) S NoIndex (remove_refusal i ∙ ap (λ b. check b 12 (check (used? i) 13 0)) (le-leb x i h))
 
-  pub pop_empty : x ≡ 0 → Performed l (pop_value w n) m m (Refused 12)
+  pub pop_empty : x ≡ 0 → Performed l (pop_value w n) m m (Err NoIndex)
   unfolding check
-  pop_empty h = refuses (pop_value w n) S 12 (pop_refusal ∙ ap (λ b. check b 12 (check (used? (x - 1)) 13 0)) (eq-eqb x 0 h)) (λ z. absurd (omega (arith, z)))
+  pop_empty h = refuses (pop_value w n) S NoIndex (pop_refusal ∙ ap (λ b. check b 12 (check (used? (x - 1)) 13 0)) (eq-eqb x 0 h))
 
-  module _ (i : ℕ) (i< : i < x) {m' : List ℕ} (r : ℕ) (T : TakenValue l k i m m' r) where
+  module _ {i : ℕ} (i< : i < x) {m' : List ℕ} {r : Result (Unit {0}) Refusal} (T : TakenValue l k i m m' r) where
     abbrev q : ℕ
     q = T.place
 
@@ -86,13 +80,14 @@ module _ {l : Layout} {m : List ℕ} (S : SoundStore l m) (w : Member) (n k : �
     pop_code e = pop_refusal ∙ ap₂ (λ a b. check a 12 (check b 13 0)) (ne_eqb x 0 (λ z. absurd (omega (arith, z, i<)))) (ap used? (sym e) ∙ used)
 
     module _ (E : Edit) (code : refusal_of (meaning P) E ≡ check (ltb 0 (length (P.list (val, q) value_uses))) 13 0) where
-      kept : r ≢ 0 → Performed l E m m' (Refused r)
+      kept : {e : Refusal} → r ≡ Err e → Performed l E m m' (Err e)
       unfolding check
-      kept z =
-          subst (λ (y : List ℕ). Performed l E m y (Refused r)) (sym (T.used z).1)
-          (refuses E S r (code ∙ ap (λ b. check b 13 0) (lt-ltb 0 (length (P.list (val, q) value_uses)) (T.used z).2) ∙ sym (T.used z).0) z)
+      kept {e} z =
+          let t = T.used e z in
+          subst (λ (y : List ℕ). Performed l E m y (Err e)) (sym t.1)
+          (refuses E S e (code ∙ ap (λ b. check b 13 0) (lt-ltb 0 (length (P.list (val, q) value_uses)) t.2) ∙ ap number_of (sym t.0)))
 
-      module _ (z : r ≡ 0) (right : meaning (end (val, q) (leave home (val, q) P)) ≡ accept E (meaning P)) (says : answer E (meaning P) (accept E (meaning P)).history ≡ found 0 0) where
+      module _ (z : r ≡ Ok tt) (right : meaning (end (val, q) (leave home (val, q) P)) ≡ accept E (meaning P)) (says : answer E (meaning P) (accept E (meaning P)).history ≡ found 0 0) where
         taken : state_of l m' ≡ end (val, q) (leave home (val, q) P)
         taken = (T.ended z).state home (value_own S.sound w A.place i q inside at)
 
@@ -100,23 +95,23 @@ module _ {l : Layout} {m : List ℕ} (S : SoundStore l m) (w : Member) (n k : �
         settled : Settles P (state_of l m')
         settled = subst (Settles P) (sym taken) (settles_finish home (val, q) P)
 
-        done : Performed l E m m' (Accepted 0 0)
+        done : Performed l E m m' (Ok (0, 0))
         unfolding check
         done = accepts E (T.ended z).sound (code ∙ ap (λ (y : List Thing). check (ltb 0 (length y)) 13 0) (T.idle z)) (ap meaning taken ∙ right) (T.ended z).rest settled 0 0 says
 
-    pub remove_used : r ≢ 0 → Performed l (remove_value w n i) m m' (Refused r)
+    pub remove_used : {e : Refusal} → r ≡ Err e → Performed l (remove_value w n i) m m' (Err e)
     remove_used z = kept (remove_value w n i) remove_code z
 
-    pub removed : r ≡ 0 → Performed l (remove_value w n i) m m' (Accepted 0 0)
+    pub removed : r ≡ Ok tt → Performed l (remove_value w n i) m m' (Ok (0, 0))
     unfolding answer clean found
     removed z =
         done (remove_value w n i) remove_code z
         (remove_value_accept S.sound w A.place i q inside at A.live (T.idle z) ∙ ap (λ (a : ℕ). accept (remove_value w a i) (meaning P)) A.number) refl
 
-    pub pop_used : i ≡ x - 1 → r ≢ 0 → Performed l (pop_value w n) m m' (Refused r)
+    pub pop_used : i ≡ x - 1 → {e : Refusal} → r ≡ Err e → Performed l (pop_value w n) m m' (Err e)
     pop_used e z = kept (pop_value w n) (pop_code e) z
 
-    pub popped : i ≡ x - 1 → r ≡ 0 → Performed l (pop_value w n) m m' (Accepted 0 0)
+    pub popped : i ≡ x - 1 → r ≡ Ok tt → Performed l (pop_value w n) m m' (Ok (0, 0))
     unfolding answer clean found
     popped e z =
         done (pop_value w n) (pop_code e) z

@@ -4,7 +4,7 @@ use mathlib.Core.Logic.{⊎_elim}
 use mathlib.Core.List.{List, [], ◌∷◌, ◌++◌}
 use mathlib.Core.Option.{Option}
 use native.Mathlib.Omega.{arith}
-use Prim.Native.Nat.{ℕ, suc, ◌+◌}
+use Prim.Native.Nat.{ℕ, ◌+◌}
 use lib.ListN.{length}
 use Rattle.seqs.specs.Seqs.{tick, count, In, sum}
 use Rattle.places.specs.Store.{Kind-dec, op, blk, reg, usg, operands, successors, slots, Thing, Thing-dec, Con, State, Sound, outer}
@@ -17,45 +17,47 @@ use Rattle.places.proofs.Outside.{part_sum}
 use Rattle.places.proofs.Climb.{ops_among}
 use Rattle.places.proofs.DropAll.{drop_uses, drop_count}
 use Rattle.places.proofs.DropTurn.{append_assoc, append_nil, length_append, gather_append, drop_eq, uses_none, part_sound, kids_kept, walk_kept, drop_kept, loop_kids, loop_turn, loop_ops, loop_ended, loop_done}
-use Rattle.context.specs.Memory.{head_code}
+use Rattle.std.specs.Prelude as Rust
+use Rattle.std.specs.Prelude.{None, Some}
+use Rattle.context.specs.Memory.{first_place}
 use Rattle.walk.specs.Drop.{operations}
-use Rattle.walk.proofs.Nested.{operations_are, operations_eq}
+use Rattle.walk.proofs.Nested.{same_place, none_some, operations_are, operations_eq}
 
--- the loop over what lies in x, begun at Z, come to the code k, at Q
-pub record Going (Z : State) (x : Thing) (k : ℕ) (Q : State) : Type 0 where
+-- the loop over what lies in x, begun at Z, come to the place k, at Q
+pub record Going (Z : State) (x : Thing) (k : Rust.Option ℕ) (Q : State) : Type 0 where
   pub sound : Sound Z
   pub own : place_uses_at Z x ≡ []
   pub done : List Thing
   pub todo : List Thing
   pub parts : kids Z x ≡ done ++ todo
-  pub code : k ≡ head_code todo
+  pub code : k ≡ first_place todo
   pub now : Q ≡ cut_all (gather (drop_list Z) done) Z
 
 -- the operations reached and the uses ended in the loop
-abbrev pub reached : {Z : State} {x : Thing} {k : ℕ} {Q : State} → Going Z x k Q → ℕ
+abbrev pub reached : {Z : State} {x : Thing} {k : Rust.Option ℕ} {Q : State} → Going Z x k Q → ℕ
 reached {Z} G = sum (operations Z) G.done
 
-abbrev pub ended_in : {Z : State} {x : Thing} {k : ℕ} {Q : State} → Going Z x k Q → ℕ
+abbrev pub ended_in : {Z : State} {x : Thing} {k : Rust.Option ℕ} {Q : State} → Going Z x k Q → ℕ
 ended_in {Z} G = length (gather (drop_list Z) G.done)
 
-unfoldable pub begins : {Z : State} {x : Thing} (k : ℕ) → Sound Z → place_uses_at Z x ≡ [] → k ≡ head_code (kids Z x) → Going Z x k Z
+unfoldable pub begins : {Z : State} {x : Thing} (k : Rust.Option ℕ) → Sound Z → place_uses_at Z x ≡ [] → k ≡ first_place (kids Z x) → Going Z x k Z
 begins {Z} {x} k S e h = record { sound = S; own = e; done = []; todo = kids Z x; parts = refl; code = h; now = sym (cut_nothing Z) }
 
 -- the next one
-pub record Next (Z : State) (x : Thing) (k : ℕ) (d : List Thing) : Type 0 where
+pub record Next (Z : State) (x : Thing) (p : ℕ) (d : List Thing) : Type 0 where
   pub kid : Thing
   pub later : List Thing
   pub parts : kids Z x ≡ d ++ (kid ∷ later)
-  pub code : k ≡ suc kid.1
+  pub at : p ≡ kid.1
 
-pub next : {Z : State} {x : Thing} {k : ℕ} {Q : State} (G : Going Z x k Q) → (k ≡ 0 → ⊥) → Next Z x k G.done
-next {Z} {x} {k} G h = go G.todo G.parts G.code
+pub next : {Z : State} {x : Thing} {k : Rust.Option ℕ} {Q : State} {p : ℕ} (G : Going Z x k Q) → k ≡ Some p → Next Z x p G.done
+next {Z} {x} {k} {Q} {p} G h = go G.todo G.parts (sym h ∙ G.code)
   where
-    go : (t : List Thing) → kids Z x ≡ G.done ++ t → k ≡ head_code t → Next Z x k G.done
-    go [] p c = absurd (h c)
-    go (y ∷ t) p c = record { kid = y; later = t; parts = p; code = c }
+    go : (t : List Thing) → kids Z x ≡ G.done ++ t → ◌≡◌ {A = Rust.Option ℕ} (Some p) (first_place t) → Next Z x p G.done
+    go [] e c = absurd (none_some (sym c))
+    go (y ∷ t) e c = record { kid = y; later = t; parts = e; at = same_place c }
 
-module _ {Z : State} {x : Thing} {k : ℕ} {Q : State} (G : Going Z x k Q) (N : Next Z x k G.done) where
+module _ {Z : State} {x : Thing} {k : Rust.Option ℕ} {Q : State} {p : ℕ} (G : Going Z x k Q) (N : Next Z x p G.done) where
   abbrev d : List Thing
   d = G.done
 
@@ -75,7 +77,7 @@ module _ {Z : State} {x : Thing} {k : ℕ} {Q : State} (G : Going Z x k Q) (N : 
   pub enough : operations Z x ≡ tick (Kind-dec x.0 op) + (reached G + (operations Z N.kid + sum (operations Z) N.later))
   enough = operations_eq G.sound.linked x ∙ ap (λ (l : List Thing). tick (Kind-dec x.0 op) + sum (operations Z) l) N.parts ∙ ap (λ (n : ℕ). tick (Kind-dec x.0 op) + n) (sum_append (operations Z) d (N.kid ∷ N.later))
 
-  pub goes_on : {R : State} (j : ℕ) → R ≡ dropped Q N.kid → j ≡ head_code N.later → Going Z x j R
+  pub goes_on : {R : State} (j : Rust.Option ℕ) → R ≡ dropped Q N.kid → j ≡ first_place N.later → Going Z x j R
   goes_on {R} j e h =
       record {
         sound = G.sound;
@@ -87,16 +89,16 @@ module _ {Z : State} {x : Thing} {k : ℕ} {Q : State} (G : Going Z x k Q) (N : 
         now = e ∙ ap (λ (P : State). dropped P N.kid) so_far ∙ loop_turn G.sound x d N.kid N.later N.parts ∙ ap (λ (l : List Thing). cut_all (l ++ gather (drop_list Z) (d ++ (N.kid ∷ []))) Z) G.own;
       }
 
-  pub more_reached : {R : State} (j : ℕ) (e : R ≡ dropped Q N.kid) (h : j ≡ head_code N.later) → reached (goes_on j e h) ≡ reached G + operations Q N.kid
+  pub more_reached : {R : State} (j : Rust.Option ℕ) (e : R ≡ dropped Q N.kid) (h : j ≡ first_place N.later) → reached (goes_on j e h) ≡ reached G + operations Q N.kid
   unfolding goes_on
   more_reached j e h = omega (arith, sum_append (operations Z) d (N.kid ∷ []), same_ops)
 
-  pub more_ended : {R : State} (j : ℕ) (e : R ≡ dropped Q N.kid) (h : j ≡ head_code N.later) → ended_in (goes_on j e h) ≡ ended_in G + length (drop_list Q N.kid)
+  pub more_ended : {R : State} (j : Rust.Option ℕ) (e : R ≡ dropped Q N.kid) (h : j ≡ first_place N.later) → ended_in (goes_on j e h) ≡ ended_in G + length (drop_list Q N.kid)
   unfolding goes_on
   more_ended j e h = omega (arith, ap length (gather_append (drop_list Z) d (N.kid ∷ [])), length_append (gather (drop_list Z) d) (gather (drop_list Z) (N.kid ∷ [])), length_append (drop_list Z N.kid) [], same_ended)
 
 -- what lies in x is the same all along
-pub after_kids : {Z : State} {x : Thing} {k : ℕ} {Q : State} → Going Z x k Q → kids Q x ≡ kids Z x
+pub after_kids : {Z : State} {x : Thing} {k : Rust.Option ℕ} {Q : State} → Going Z x k Q → kids Q x ≡ kids Z x
 after_kids {Z} {x} {k} {Q} G = ap (λ (P : State). kids P x) G.now ∙ kids_kept G.sound (gather (drop_list Z) G.done) uses x
   where
     all_parts : (u : Thing) → count Thing-dec u (drop_list Z x) ≡ count Thing-dec u (place_uses_at Z x) + (count Thing-dec u (gather (drop_list Z) G.done) + count Thing-dec u (gather (drop_list Z) G.todo))
@@ -108,13 +110,13 @@ after_kids {Z} {x} {k} {Q} G = ap (λ (P : State). kids P x) G.now ∙ kids_kept
     uses : (u : Thing) → In Thing-dec u (gather (drop_list Z) G.done) → u.0 ≡ usg
     uses u i = (drop_uses G.sound.linked x).kind u (omega (arith, i, all_parts u))
 
-module _ {Z : State} {x : Thing} {k : ℕ} {Q : State} (G : Going Z x k Q) (h : k ≡ 0) where
+module _ {Z : State} {x : Thing} {k : Rust.Option ℕ} {Q : State} (G : Going Z x k Q) (h : k ≡ None) where
   all : kids Z x ≡ G.done
-  all = go G.todo G.parts G.code
+  all = go G.todo G.parts (sym h ∙ G.code)
     where
-      go : (t : List Thing) → kids Z x ≡ G.done ++ t → k ≡ head_code t → kids Z x ≡ G.done
-      go [] p c = p ∙ append_nil G.done
-      go (y ∷ t) p c = absurd (omega (arith, h, c))
+      go : (t : List Thing) → kids Z x ≡ G.done ++ t → ◌≡◌ {A = Rust.Option ℕ} None (first_place t) → kids Z x ≡ G.done
+      go [] e c = e ∙ append_nil G.done
+      go (y ∷ t) e c = absurd (none_some c)
 
   pub ends : Q ≡ dropped Z x
   ends = G.now ∙ ap (λ (l : List Thing). cut_all (l ++ gather (drop_list Z) G.done) Z) (sym G.own) ∙ ap (λ (l : List Thing). cut_all (place_uses_at Z x ++ gather (drop_list Z) l) Z) (sym all) ∙ loop_done G.sound x

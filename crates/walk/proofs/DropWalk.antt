@@ -3,7 +3,7 @@ use mathlib.Core.Path.{◌≡◌, refl, sym, ap, ◌∙◌, subst}
 use mathlib.Core.List.{List, [], ◌∷◌, ◌++◌}
 use mathlib.Core.Option.{some}
 use native.Mathlib.Omega.{arith}
-use Prim.Native.Nat.{ℕ, ◌+◌, ◌-◌, ◌*◌, ◌<◌, ◌≤◌}
+use Prim.Native.Nat.{ℕ, ◌+◌, ◌*◌, ◌<◌, ◌≤◌}
 use lib.ListN.{length}
 use Rattle.seqs.specs.Seqs.{tick, count, In, sum}
 use Rattle.places.specs.Store.{Kind-dec, op, blk, reg, Role, regions, blocks, ops, Fam, regs, ops_in, blocks_in, fam, node_of, Thing, Thing-dec, Con, State, Live, Link, Linked, Sound}
@@ -13,13 +13,14 @@ use Rattle.seqs.proofs.Base.{tick_yes, tick_no, count_append, in_head}
 use Rattle.places.proofs.Steps.{thing_eq, listed}
 use Rattle.places.proofs.Nest.{kind_code}
 use Rattle.places.proofs.DropTurn.{append_assoc, kids_op, kids_reg, kids_blk}
+use Rattle.std.specs.Prelude.{Option, None, Some}
 use Rattle.context.specs.declared.Layout.{Layout}
 use Rattle.context.specs.Layout.{cap_of, nc_of, nn_of}
-use Rattle.context.specs.Memory.{part, con, state_of, Well, SoundStore, head_code, FirstIs}
+use Rattle.context.specs.Memory.{part, con, state_of, SoundStore, first_place, FirstIs}
 use Rattle.context.specs.Reading.{list_of, NextIs}
 use Rattle.context.proofs.Places.{place<}
 use Rattle.walk.specs.Drop.{Walked, operations, CanDrop, Counted, Dropped}
-use Rattle.context.proofs.Cursor.{from, from_code, Single, single, kid_live}
+use Rattle.context.proofs.Cursor.{from, from_place, Single, single, kid_live}
 use Rattle.walk.proofs.Nested.{operations_eq}
 use Rattle.walk.proofs.DropLaws.{Going, reached, ended_in, Next, begins, next, reads, same_ops, enough, goes_on, more_reached, more_ended, ends, all_reached, all_ended, region_own, block_own, own_none, own_rest, own_ops, own_ended, after_kids}
 
@@ -52,8 +53,8 @@ module _ {l : Layout} {f : Fam} {x : Thing} (T : Nests l f x) (m : List ℕ) (S 
   pub list_of_lem : kids P x ≡ list_of l m (con l f x.1)
   list_of_lem = T.lists S ∙ ap (λ (c : Con). list_of l m c) (sym T.con_is)
 
-  pub first_code : (k : ℕ) → FirstIs l f x.1 m k → k ≡ head_code (kids P x)
-  first_code k F = F.is ∙ ap head_code (sym list_of_lem)
+  pub first_kid : (k : Option ℕ) → FirstIs l f x.1 m k → k ≡ first_place (kids P x)
+  first_kid k F = F.is ∙ ap first_place (sym list_of_lem)
 
   module _ (d : List Thing) (y : Thing) (r : List Thing) (e : kids P x ≡ d ++ (y ∷ r)) where
     inside : In Thing-dec y (P.list x T.role)
@@ -68,18 +69,18 @@ module _ {l : Layout} {f : Fam} {x : Thing} (T : Nests l f x) (m : List ℕ) (S 
     pub kid_lives : Live P (node_in f, y.1)
     kid_lives = subst (λ (z : Thing). Live P z) kid_is L.live
 
-    pub next_code : (j : ℕ) → NextIs l f y.1 m j → j ≡ head_code r
-    next_code j N =
+    pub next_kid : (j : Option ℕ) → NextIs l f y.1 m j → j ≡ first_place r
+    next_kid j N =
         N.after (T.role, x)
         (subst (λ (z : Thing). P.own z f ≡ some (T.role, x)) kid_is (subst (λ (g : Fam). P.own y g ≡ some (T.role, x)) T.family (listed S y x T.role inside)))
         d r
         (sym (T.lists S) ∙ e ∙ ap {B = List Thing} (λ (z : Thing). d ++ (z ∷ r)) kid_is)
 
-  -- what is left from a code on
-  pub from_is : (a b : List Thing) → kids P x ≡ a ++ b → from (head_code b) (kids P x) ≡ b
+  -- what is left from a place on
+  pub from_is : (a b : List Thing) → kids P x ≡ a ++ b → from (first_place b) (kids P x) ≡ b
   from_is a b e =
-      ap (from (head_code b)) e
-      ∙ from_code (node_of T.role) a b (subst (λ (z : List Thing). Single (node_of T.role) z) (sym (T.lists S) ∙ e) (single S x T.role))
+      ap (from (first_place b)) e
+      ∙ from_place (node_of T.role) a b (subst (λ (z : List Thing). Single (node_of T.role) z) (sym (T.lists S) ∙ e) (single S x T.role))
 
 -- ---- the loop
 
@@ -98,8 +99,8 @@ pub record Ready (l : Layout) (x : Thing) (w : Walked) (m : List ℕ) : Type 0 w
   pub few : w.left + w.freed ≤ 4096
   pub uses : w.ended + 128 * w.left ≤ 600000
 
--- begun at m₀ with w₀, come to the code k
-pub record Dropping (l : Layout) (x : Thing) (m₀ m : List ℕ) (k : ℕ) (w₀ w : Walked) : Type 0 where
+-- begun at m₀ with w₀, come to the place k
+pub record Dropping (l : Layout) (x : Thing) (m₀ m : List ℕ) (k : Option ℕ) (w₀ w : Walked) : Type 0 where
   pub ready : Ready l x w₀ m₀
   pub store : SoundStore l m
   pub rest : part l m 14 ≡ part l m₀ 14
@@ -107,46 +108,43 @@ pub record Dropping (l : Layout) (x : Thing) (m₀ m : List ℕ) (k : ℕ) (w₀
   pub numbers : Counted w₀ (reached going) (ended_in going) w
 
 -- what is left to go through
-abbrev pub ahead : Layout → Thing → List ℕ → ℕ → ℕ
+abbrev pub ahead : Layout → Thing → List ℕ → Option ℕ → ℕ
 ahead l x m k = length (from k (kids (state_of l m) x))
 
 module _ {l : Layout} {f : Fam} {x : Thing} (T : Nests l f x) where
-  pub begun : {m : List ℕ} {w : Walked} (k : ℕ) → Ready l x w m → FirstIs l f x.1 m k → Dropping l x m m k w w
+  pub begun : {m : List ℕ} {w : Walked} (k : Option ℕ) → Ready l x w m → FirstIs l f x.1 m k → Dropping l x m m k w w
   unfolding begins
   begun {m} {w} k R F =
       record {
         ready = R;
         store = R.store;
         rest = refl;
-        going = begins k R.store.sound R.own (first_code T m R.store.sound.linked k F);
+        going = begins k R.store.sound R.own (first_kid T m R.store.sound.linked k F);
         numbers = record { left = omega arith; freed = omega arith; ended = omega arith; small = omega arith };
       }
 
-  module _ {m₀ m : List ℕ} {k : ℕ} {w₀ w : Walked} (D : Dropping l x m₀ m k w₀ w) (h : k ≡ 0 → ⊥) where
+  module _ {m₀ m : List ℕ} {k : Option ℕ} {w₀ w : Walked} {p : ℕ} (D : Dropping l x m₀ m k w₀ w) (h : k ≡ Some p) where
     abbrev Z : State
     Z = state_of l m₀
 
     abbrev Q : State
     Q = state_of l m
 
-    N : Next Z x k D.going.done
+    N : Next Z x p D.going.done
     N = next D.going h
 
     parts : kids Q x ≡ D.going.done ++ (N.kid ∷ N.later)
     unfolding N
     parts = reads D.going N ∙ N.parts
 
-    at : k - 1 ≡ N.kid.1
-    at = omega (arith, N.code)
+    kid : N.kid ≡ (node_in f, p)
+    kid = kid_is T m D.store.sound.linked D.going.done N.kid N.later parts ∙ ap (λ (q : ℕ). (node_in f, q)) (sym N.at)
 
-    kid : N.kid ≡ (node_in f, k - 1)
-    kid = kid_is T m D.store.sound.linked D.going.done N.kid N.later parts ∙ ap (λ (p : ℕ). (node_in f, p)) (sym at)
-
-    lives : Live Q (node_in f, k - 1)
-    lives = subst (λ (p : ℕ). Live Q (node_in f, p)) (sym at) (kid_lives T m D.store.sound.linked D.going.done N.kid N.later parts)
+    lives : Live Q (node_in f, p)
+    lives = subst (λ (q : ℕ). Live Q (node_in f, q)) (sym N.at) (kid_lives T m D.store.sound.linked D.going.done N.kid N.later parts)
 
     -- the next one can be dropped
-    pub child : CanDrop l (node_in f, k - 1) w m
+    pub child : CanDrop l (node_in f, p) w m
     child =
         record {
           store = D.store;
@@ -159,27 +157,27 @@ module _ {l : Layout} {f : Fam} {x : Thing} (T : Nests l f x) where
     pub no_more : w.left ≤ w₀.left
     no_more = omega (arith, D.numbers.left)
 
-    module _ {m' : List ℕ} {r : Walked} (E : Dropped l (node_in f, k - 1) w m m' r) where
+    module _ {m' : List ℕ} {r : Walked} (E : Dropped l (node_in f, p) w m m' r) where
       gone : state_of l m' ≡ dropped Q N.kid
       gone = E.state ∙ ap (dropped Q) (sym kid)
 
       -- the place is one of the family's
-      pub asked : Well l m' × (k - 1 < nn_of l f)
-      asked = (E.store.well, place< D.store (node_in f, k - 1) lives)
+      pub asked : p < nn_of l f
+      asked = place< D.store (node_in f, p) lives
 
-      module _ (j : ℕ) (F : NextIs l f (k - 1) m' j) where
+      module _ (j : Option ℕ) (F : NextIs l f p m' j) where
         -- the same things lie in x as before
         still : kids (state_of l m') x ≡ D.going.done ++ (N.kid ∷ N.later)
         still = kept ∙ N.parts
           where
-            G₀ : Going Z x (head_code N.later) (state_of l m')
-            G₀ = goes_on D.going N (head_code N.later) gone refl
+            G₀ : Going Z x (first_place N.later) (state_of l m')
+            G₀ = goes_on D.going N (first_place N.later) gone refl
 
             kept : kids (state_of l m') x ≡ kids Z x
             kept = after_kids G₀
 
-        code : j ≡ head_code N.later
-        code = next_code T m' E.store.sound.linked D.going.done N.kid N.later still j (subst (λ (p : ℕ). NextIs l f p m' j) at F)
+        place : j ≡ first_place N.later
+        place = next_kid T m' E.store.sound.linked D.going.done N.kid N.later still j (subst (λ (q : ℕ). NextIs l f q m' j) N.at F)
 
         pub turn : Dropping l x m₀ m' j w₀ r
         turn =
@@ -187,12 +185,12 @@ module _ {l : Layout} {f : Fam} {x : Thing} (T : Nests l f x) where
               ready = D.ready;
               store = E.store;
               rest = E.rest ∙ D.rest;
-              going = goes_on D.going N j gone code;
+              going = goes_on D.going N j gone place;
               numbers =
                   record {
-                    left = omega (arith, E.numbers.left, D.numbers.left, ap (operations Q) kid, more_reached D.going N j gone code);
-                    freed = omega (arith, E.numbers.freed, D.numbers.freed, ap (operations Q) kid, more_reached D.going N j gone code);
-                    ended = omega (arith, E.numbers.ended, D.numbers.ended, ap (λ (y : Thing). length (drop_list Q y)) kid, more_ended D.going N j gone code);
+                    left = omega (arith, E.numbers.left, D.numbers.left, ap (operations Q) kid, more_reached D.going N j gone place);
+                    freed = omega (arith, E.numbers.freed, D.numbers.freed, ap (operations Q) kid, more_reached D.going N j gone place);
+                    ended = omega (arith, E.numbers.ended, D.numbers.ended, ap (λ (y : Thing). length (drop_list Q y)) kid, more_ended D.going N j gone place);
                     small = omega (arith, E.numbers.small, D.numbers.small);
                   };
             }
@@ -201,14 +199,14 @@ module _ {l : Layout} {f : Fam} {x : Thing} (T : Nests l f x) where
         less =
             omega (
               arith,
-              ap (λ (i : ℕ). length (from i (kids (state_of l m') x))) code,
+              ap (λ (i : Option ℕ). length (from i (kids (state_of l m') x))) place,
               ap length (from_is T m' E.store.sound.linked (D.going.done ++ (N.kid ∷ [])) N.later (still ∙ sym (append_assoc D.going.done (N.kid ∷ []) N.later))),
-              ap (λ (i : ℕ). length (from i (kids Q x))) N.code,
+              ap (λ (i : Option ℕ). length (from i (kids Q x))) (h ∙ ap Some N.at),
               ap length (from_is T m D.store.sound.linked D.going.done (N.kid ∷ N.later) parts),
             )
 
   -- the loop has come to its end
-  module _ {m₀ m : List ℕ} {k : ℕ} {w₀ w : Walked} (D : Dropping l x m₀ m k w₀ w) (h : k ≡ 0) where
+  module _ {m₀ m : List ℕ} {k : Option ℕ} {w₀ w : Walked} (D : Dropping l x m₀ m k w₀ w) (h : k ≡ None) where
     -- what is in a region or a block
     pub whole : tick (Kind-dec x.0 op) ≡ 0 → Dropped l x w₀ m₀ m w
     whole t =

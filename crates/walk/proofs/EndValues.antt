@@ -4,7 +4,7 @@ use mathlib.Core.Logic.{⊎_elim}
 use mathlib.Core.List.{List, [], ◌∷◌}
 use mathlib.Core.Option.{some}
 use native.Mathlib.Omega.{arith}
-use Prim.Native.Nat.{ℕ, ◌+◌, ◌-◌, ◌<◌, ◌≤◌}
+use Prim.Native.Nat.{ℕ, ◌+◌, ◌<◌, ◌≤◌}
 use lib.ListN.{length}
 use Rattle.seqs.specs.Seqs.{count, In}
 use Rattle.places.specs.Store.{op, blk, reg, val, Role, results, arguments, value_uses, Fam, vals, fam, node_of, Thing, Thing-dec, Con, State}
@@ -18,8 +18,9 @@ use Rattle.places.proofs.DropTurn.{values_op, values_blk}
 use Rattle.places.proofs.EraseTurn.{value_bare}
 use Rattle.places.proofs.Prims.{end_in}
 use Rattle.context.specs.declared.Layout.{Layout}
-use Rattle.context.specs.Layout.{kind_of, nc_of}
-use Rattle.context.specs.Memory.{part, con, state_of, SoundStore, head_code, FirstIs}
+use Rattle.std.specs.Prelude.{Option, None, Some}
+use Rattle.context.specs.Layout.{nc_of}
+use Rattle.context.specs.Memory.{part, con, state_of, SoundStore, FirstIs}
 use Rattle.context.specs.Steps.{EndedValue, Unused}
 use Rattle.context.proofs.Families.{con_back}
 use Rattle.context.proofs.Places.{place<}
@@ -29,11 +30,10 @@ use Rattle.walk.proofs.Strays.{con_results, con_arguments}
 use Rattle.walk.proofs.EraseLaws.{to_free, region_none}
 
 -- what is left to do is the whole
-pub record Ending (l : Layout) (c : ℕ) (m₀ m : List ℕ) (k : ℕ) : Type 0 where
+pub record Ending (l : Layout) (c : ℕ) (m₀ m : List ℕ) : Type 0 where
   pub can : CanEndValues l c m
   pub rest : part l m 14 ≡ part l m₀ 14
   pub state : cut_all (row l vals c m) (state_of l m) ≡ cut_all (row l vals c m₀) (state_of l m₀)
-  pub first : k ≡ head_code (row l vals c m)
 
 -- the first of a list is sifted out
 sift_first : (v : Thing) (r : List Thing) → count Thing-dec v r ≡ 0 → sift (among (v ∷ [])) (v ∷ r) ≡ r
@@ -41,10 +41,10 @@ sift_first v r z =
     pick_1 (among (v ∷ []) v) (v ∷ sift (among (v ∷ [])) r) (sift (among (v ∷ [])) r) (omega (arith, tick_yes (Thing-dec v v) refl))
     ∙ sift_all Thing-dec (among (v ∷ [])) r (λ y i. ⊎_elim (λ q. q) (λ q. absurd (omega (arith, i, z, ap (λ (t : Thing). count Thing-dec t r) (tick_pos (Thing-dec y v) (omega (arith, q)))))) (zero_or (among (v ∷ []) y)))
 
-pub ending : {l : Layout} {c : ℕ} {m : List ℕ} (k : ℕ) → CanEndValues l c m → FirstIs l vals c m k → Ending l c m m k
-ending k C F = record { can = C; rest = refl; state = refl; first = F.is }
+pub ending : {l : Layout} {c : ℕ} {m : List ℕ} → CanEndValues l c m → Ending l c m m
+ending C = record { can = C; rest = refl; state = refl }
 
-module _ {l : Layout} {c : ℕ} {m₀ m : List ℕ} {k : ℕ} (E : Ending l c m₀ m k) where
+module _ {l : Layout} {c : ℕ} {m₀ m : List ℕ} {k : Option ℕ} (E : Ending l c m₀ m) (F : FirstIs l vals c m k) where
   abbrev P : State
   P = state_of l m
 
@@ -56,7 +56,7 @@ module _ {l : Layout} {c : ℕ} {m₀ m : List ℕ} {k : ℕ} (E : Ending l c m�
 
   A : At l vals c m k
   unfolding first_at
-  A = first_at k (record { is = E.first })
+  A = first_at F
 
   todo : A.todo ≡ row l vals c m
   unfolding A first_at
@@ -69,14 +69,14 @@ module _ {l : Layout} {c : ℕ} {m₀ m : List ℕ} {k : ℕ} (E : Ending l c m�
   node = sym (node_in_lem d.0) ∙ ap node_in family
 
   -- all have ended
-  pub values_ended : k ≡ 0 → EndedValues l c m₀ m
+  pub values_ended : k ≡ None → EndedValues l c m₀ m
   values_ended z = record { store = S; rest = E.rest; state = sym (ap (λ (r : List Thing). cut_all r P) (sym todo ∙ at_end S A z) ∙ cut_nothing P) ∙ E.state }
 
-  module _ (h : k ≡ 0 → ⊥) where
+  module _ {p : ℕ} (h : k ≡ Some p) where
     abbrev v : Thing
-    v = (val, k - 1)
+    v = (val, p)
 
-    H : Here l vals c m k A.todo
+    H : Here l vals c m p A.todo
     H = here S A h
 
     is_row : row l vals c m ≡ v ∷ H.later
@@ -85,13 +85,13 @@ module _ {l : Layout} {c : ℕ} {m₀ m : List ℕ} {k : ℕ} (E : Ending l c m�
     inside : In Thing-dec v (row l vals c m)
     inside = omega (arith, ap (count Thing-dec v) is_row, in_head Thing-dec v H.later)
 
-    pub value_unused : Unused P (k - 1)
+    pub value_unused : Unused P p
     value_unused = record { live = H.live; none = E.can.bare v inside value_uses }
 
     fresh : count Thing-dec v H.later ≡ 0
     fresh = omega (arith, ap (count Thing-dec v) is_row, tick_yes (Thing-dec v v) refl, (single S.sound.linked d.1 d.0).once v)
 
-    module _ {m' : List ℕ} (G : EndedValue l (k - 1) m m') where
+    module _ {m' : List ℕ} (G : EndedValue l p m m') where
       at : P.own v (fam d.0) ≡ some d
       at = subst (λ (f : Fam). P.own v f ≡ some d) (sym family) H.own
 
@@ -107,13 +107,12 @@ module _ {l : Layout} {c : ℕ} {m₀ m : List ℕ} {k : ℕ} (E : Ending l c m�
       unfolding place_cut_by
       bare' y i r = ap (λ (Q : State). Q.list y r) gone ∙ ap (sift (among (v ∷ []))) (E.can.bare y (omega (arith, i, ap (count Thing-dec y) left, ap (count Thing-dec y) is_row)) r)
 
-      pub value_turn : (j : ℕ) → FirstIs l vals c m' j → Ending l c m₀ m' j
-      value_turn j F =
+      pub value_turn : Ending l c m₀ m'
+      value_turn =
           record {
             can = record { store = G.sound; row = E.can.row; bare = bare' };
             rest = G.rest ∙ E.rest;
             state = ap₂ {C = State} (λ (r : List Thing) (Q : State). cut_all r Q) left gone ∙ cut_append (v ∷ []) H.later P ∙ ap (λ (r : List Thing). cut_all r P) (sym is_row) ∙ E.state;
-            first = F.is;
           }
 
       pub values_less : length (row l vals c m') < length (row l vals c m)
@@ -121,7 +120,7 @@ module _ {l : Layout} {c : ℕ} {m₀ m : List ℕ} {k : ℕ} (E : Ending l c m�
 
 -- ---- the values of a thing
 
-module _ {l : Layout} {m : List ℕ} (k p : ℕ) where
+module _ {l : Layout} {m : List ℕ} where
   by_row : (x : Thing) (c : ℕ) (r : Role) → kind_code x.0 ≤ 2 → CanErase l x m → c < nc_of l vals → con l vals c ≡ (r, x) → place_values_at (state_of l m) x ≡ (state_of l m).list x r → CanEndValues l c m
   by_row x c r kx C b e q =
       record {
@@ -133,32 +132,25 @@ module _ {l : Layout} {m : List ℕ} (k p : ℕ) where
   own_row : (x : Thing) (c : ℕ) (r : Role) {m' : List ℕ} → con l vals c ≡ (r, x) → place_values_at (state_of l m) x ≡ (state_of l m).list x r → EndedValues l c m m' → OwnEnded l x m m'
   own_row x c r e q E = record { store = E.store; rest = E.rest; state = E.state ∙ ap (λ (t : List Thing). cut_all t (state_of l m)) (ap (λ (d : Con). (state_of l m).list d.1 d.0) e ∙ sym q) }
 
-  module _ (C : CanErase l (kind_of k, p) m) where
-    pub can_results : k ≡ 0 → CanEndValues l p m
+  module _ (p : ℕ) (C : CanErase l (op, p) m) where
+    pub can_results : CanEndValues l p m
     unfolding kind_code
-    can_results z =
-        let D : CanErase l (op, p) m = subst (λ (i : ℕ). CanErase l (kind_of i, p) m) z C in
-        let b : p < l.ops = place< D.store (op, p) D.live in
-        by_row (op, p) p results (omega arith) D (omega (arith, b)) (con_results l p b) (values_op D.store.sound.linked p)
+    can_results =
+        let b : p < l.ops = place< C.store (op, p) C.live in
+        by_row (op, p) p results (omega arith) C (omega (arith, b)) (con_results l p b) (values_op C.store.sound.linked p)
 
-    pub can_arguments : k ≡ 1 → CanEndValues l (l.ops + p) m
+    pub own_results : {m' : List ℕ} → EndedValues l p m m' → OwnEnded l (op, p) m m'
+    own_results E = own_row (op, p) p results (con_results l p (place< C.store (op, p) C.live)) (values_op C.store.sound.linked p) E
+
+  module _ (p : ℕ) (C : CanErase l (blk, p) m) where
+    pub can_arguments : CanEndValues l (l.ops + p) m
     unfolding kind_code
-    can_arguments z =
-        let D : CanErase l (blk, p) m = subst (λ (i : ℕ). CanErase l (kind_of i, p) m) z C in
-        let b : p < l.blocks = place< D.store (blk, p) D.live in
-        by_row (blk, p) (l.ops + p) arguments (omega arith) D (omega (arith, b)) (con_arguments l p) (values_blk D.store.sound.linked p)
+    can_arguments =
+        let b : p < l.blocks = place< C.store (blk, p) C.live in
+        by_row (blk, p) (l.ops + p) arguments (omega arith) C (omega (arith, b)) (con_arguments l p) (values_blk C.store.sound.linked p)
 
-    pub own_results : {m' : List ℕ} → k ≡ 0 → EndedValues l p m m' → OwnEnded l (kind_of k, p) m m'
-    own_results {m'} z E =
-        let D : CanErase l (op, p) m = subst (λ (i : ℕ). CanErase l (kind_of i, p) m) z C in
-        subst (λ (i : ℕ). OwnEnded l (kind_of i, p) m m') (sym z) (own_row (op, p) p results (con_results l p (place< D.store (op, p) D.live)) (values_op D.store.sound.linked p) E)
+    pub own_arguments : {m' : List ℕ} → EndedValues l (l.ops + p) m m' → OwnEnded l (blk, p) m m'
+    own_arguments E = own_row (blk, p) (l.ops + p) arguments (con_arguments l p) (values_blk C.store.sound.linked p) E
 
-    pub own_arguments : {m' : List ℕ} → k ≡ 1 → EndedValues l (l.ops + p) m m' → OwnEnded l (kind_of k, p) m m'
-    own_arguments {m'} z E =
-        let D : CanErase l (blk, p) m = subst (λ (i : ℕ). CanErase l (kind_of i, p) m) z C in
-        subst (λ (i : ℕ). OwnEnded l (kind_of i, p) m m') (sym z) (own_row (blk, p) (l.ops + p) arguments (con_arguments l p) (values_blk D.store.sound.linked p) E)
-
-    pub own_nothing : k ≡ 2 → OwnEnded l (kind_of k, p) m m
-    own_nothing z =
-        let D : CanErase l (reg, p) m = subst (λ (i : ℕ). CanErase l (kind_of i, p) m) z C in
-        subst (λ (i : ℕ). OwnEnded l (kind_of i, p) m m) (sym z) (record { store = D.store; rest = refl; state = sym (ap (λ (t : List Thing). cut_all t (state_of l m)) (region_none D.store.sound p) ∙ cut_nothing (state_of l m)) })
+  pub own_nothing : (p : ℕ) → CanErase l (reg, p) m → OwnEnded l (reg, p) m m
+  own_nothing p C = record { store = C.store; rest = refl; state = sym (ap (λ (t : List Thing). cut_all t (state_of l m)) (region_none C.store.sound p) ∙ cut_nothing (state_of l m)) }

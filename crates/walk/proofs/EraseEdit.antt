@@ -7,17 +7,22 @@ use native.Mathlib.Omega.{arith}
 use Prim.Native.Nat.{ℕ, zero, suc, ◌+◌, ◌<◌, ◌≤◌}
 use lib.ListN.{length, get_or}
 use Rattle.seqs.specs.Seqs.{In, sum}
-use Rattle.places.specs.Store.{op, blk, reg, usg, results, arguments, regions, ops, regs, Thing, Thing-dec, State, alive, Live, Sound}
+use Rattle.places.specs.Store.{Kind, op, blk, reg, usg, results, arguments, regions, ops, regs, Thing, Thing-dec, State, alive, Live, Sound}
 use Rattle.places.specs.Parts.{rows_of}
 use Rattle.places.specs.View.{num}
-use Rattle.places.specs.Hist.{meaning, thing_named}
+use Rattle.places.specs.Hist.{meaning}
 use Rattle.places.specs.Alias.{RState}
 use Rattle.places.specs.Settled.{Settles}
 use Rattle.places.specs.Walk.{pick, gather, place_cut_by, cut_all, among, kids, walk_by, walk, place_values_at, drop_list, dropped, innards, erased, strays, strays_in}
 use Rattle.edit.specs.Record.{Edit, erase_operation, erase_block, erase_region}
-use Rattle.edit.specs.Answer.{found}
-use Rattle.edit.specs.declared.Answer.{Answer}
-use Rattle.edit.specs.declared.Answer.TheVariants.{Accepted, Refused}
+use Rattle.std.specs.Prelude.{Ok, Err}
+use Rattle.edit.specs.Answer.{Answer, found}
+use Rattle.edit.specs.Kinds.{number_of, member_of}
+use Rattle.edit.specs.declared.Member.{Member}
+use Rattle.edit.specs.declared.Nested.{Nested}
+use Rattle.edit.specs.declared.Refusal.{Refusal}
+use Rattle.edit.specs.declared.Refusal.TheVariants.{NoIndex}
+use Rattle.places.specs.Roles.{Unnamed, missing_code, member_kind}
 use Rattle.rules.specs.State.{accept}
 use Rattle.rules.specs.Refusal.{named, refusal_of}
 use Rattle.rules.specs.Refusal as R
@@ -34,19 +39,20 @@ use Rattle.places.proofs.EraseTurn.{drop_free}
 use Rattle.places.proofs.TopRefusals.{refuse_op, refuse_block, refuse_region, refuse_index}
 use Rattle.places.proofs.Meaning.{erase_op_meaning, erase_op_reply, erase_block_meaning, erase_block_reply, erase_region_meaning, erase_region_reply}
 use Rattle.context.specs.declared.Layout.{Layout}
-use Rattle.context.specs.Layout.{kind_of}
 use Rattle.context.specs.Memory.{state_of, SoundStore, LengthIs}
+use Rattle.context.specs.Nest.{nested_kind}
 use Rattle.context.specs.Reading.{NthIs}
 use Rattle.context.specs.Performed.{Performed}
 use Rattle.context.proofs.Performing.{refuses, accepts}
+use Rattle.edit.proofs.Numbers.{number_of-positive}
 use Rattle.walk.specs.declared.Tally.{Tally}
 use Rattle.walk.specs.Drop.{Tallied}
 use Rattle.walk.specs.Tests.{within, erase_code, Tested, Testable}
 use Rattle.walk.specs.Erase.{CanErase, Erased, EraseDone, EraseAnswer, erase_by}
 use Rattle.walk.proofs.Nested.{operations_are}
-use Rattle.walk.proofs.Asked.{passes}
+use Rattle.walk.proofs.Asked.{passes, no_thing}
 use Rattle.walk.proofs.EraseLaws.{from_free}
-use Rattle.walk.proofs.EraseWalk.{code≤}
+use Rattle.walk.proofs.EraseWalk.{nested≤}
 
 -- ---- the store afterwards
 
@@ -116,25 +122,21 @@ module _ {l : Layout} {m m' : List ℕ} (S : SoundStore l m) (e : Edit) (x : Thi
       finish : erase_code P mk n x ≡ 0 → EraseDone l x m m' r → Performed l e m m' r
       finish z E = done_performed l m m' e x r (asked ∙ z) E (after (no_strays (sum (strays P mk) (within P n x)) (strays_in P mk x) z)) (reply (no_strays (sum (strays P mk) (within P n x)) (strays_in P mk x) z))
 
+      stop : (m' ≡ m) × (a : Refusal) × (r ≡ Err a) × (number_of a ≡ erase_code P mk n x) → Performed l e m m' r
+      stop w =
+          subst (λ (t : List ℕ). Performed l e m t r) (sym w.0)
+          (subst (λ (a : Answer). Performed l e m m a) (sym w.2) (refuses e S w.1 (asked ∙ sym w.3)))
+
       go : (c : ℕ) → erase_code P mk n x ≡ c → Performed l e m m' r
       go zero z = finish z (D.done z)
-      go (suc c) z =
-          subst (λ (t : List ℕ). Performed l e m t r) (sym (D.kept c z).0)
-          (subst (λ (a : Answer). Performed l e m m a) (sym (D.kept c z).1) (refuses e S (suc c) (asked ∙ z) (λ q. omega (arith, q))))
-
--- the name in an edit that erases an operation or a block
-pub names_one : (k n : ℕ) → k ≤ 1 → named (erase_by k n) ≡ R.thing_named (thing_named (kind_of k) n) ∷ []
-unfolding named R.thing_named
-names_one zero n h = refl
-names_one (suc zero) n h = refl
-names_one (suc (suc k)) n h = absurd (omega arith)
+      go (suc c) z = stop (D.kept (λ q. omega (arith, q, z)))
 
 module _ {l : Layout} {m : List ℕ} (S : SoundStore l m) where
   abbrev Q : State
   Q = state_of l m
 
   -- 39
-  did_erase_op : (m' : List ℕ) (r : Answer) (o n : ℕ) → Live Q (op, o) → num Q (op, o) ≡ n → EraseAnswer l (op, o) 1 m m' r → Performed l (erase_operation n) m m' r
+  pub did_erase_op : (m' : List ℕ) (r : Answer) (o n : ℕ) → Live Q (op, o) → num Q (op, o) ≡ n → EraseAnswer l (op, o) 1 m m' r → Performed l (erase_operation n) m m' r
   unfolding meaning named R.thing_named kind_code
   did_erase_op m' r o n v q D =
       subst (λ (i : ℕ). Performed l (erase_operation i) m m' r) q
@@ -144,7 +146,7 @@ module _ {l : Layout} {m : List ℕ} (S : SoundStore l m) where
       (λ z. erase_op_reply S.sound D.marks o v D.right z))
 
   -- 40
-  did_erase_block : (m' : List ℕ) (r : Answer) (b n : ℕ) → Live Q (blk, b) → num Q (blk, b) ≡ n → EraseAnswer l (blk, b) 2 m m' r → Performed l (erase_block n) m m' r
+  pub did_erase_block : (m' : List ℕ) (r : Answer) (b n : ℕ) → Live Q (blk, b) → num Q (blk, b) ≡ n → EraseAnswer l (blk, b) 2 m m' r → Performed l (erase_block n) m m' r
   unfolding meaning named R.thing_named kind_code
   did_erase_block m' r b n v q D =
       subst (λ (i : ℕ). Performed l (erase_block i) m m' r) q
@@ -153,19 +155,26 @@ module _ {l : Layout} {m : List ℕ} (S : SoundStore l m) where
       (λ z. erase_block_meaning S.sound D.marks b v D.right z)
       (λ z. erase_block_reply S.sound D.marks b v D.right z))
 
-  -- 39 and 40, by the code of the kind
-  pub did_erase : (m' : List ℕ) (r : Answer) (k p n : ℕ) → k ≤ 1 → Live Q (kind_of k, p) × (num Q (kind_of k, p) ≡ n) → EraseAnswer l (kind_of k, p) (k + 1) m m' r → Performed l (erase_by k n) m m' r
-  did_erase m' r zero p n h v D = did_erase_op m' r p n v.0 v.1 D
-  did_erase m' r (suc zero) p n h v D = did_erase_block m' r p n v.0 v.1 D
-  did_erase m' r (suc (suc k)) p n h v D = absurd (omega arith)
+  -- no operation or block has the number
+  pub none_to_erase : (w : Member) (n : ℕ) {K : Kind} {r : Refusal} → K ≡ member_kind (member_of w) → Unnamed Q K n × (number_of r ≡ missing_code K) → Performed l (erase_by (member_of w) n) m m (Err r)
+  unfolding named R.thing_named
+  none_to_erase Member.Operation n q u = no_thing S (erase_operation n) Nested.Operation n q u refl
+  none_to_erase Member.Block n q u = no_thing S (erase_block n) Nested.Block n q u refl
+
+  -- what the look-up found
+  pub operation_at : {w : Member} {K : Kind} (n p : ℕ) → K ≡ member_kind (member_of w) → w ≡ Member.Operation → Live Q (K, p) × (num Q (K, p) ≡ n) → Live Q (op, p) × (num Q (op, p) ≡ n)
+  operation_at n p q e F = subst (λ (J : Kind). Live Q (J, p) × (num Q (J, p) ≡ n)) (q ∙ ap (λ (v : Member). member_kind (member_of v)) e) F
+
+  pub block_at : {w : Member} {K : Kind} (n p : ℕ) → K ≡ member_kind (member_of w) → w ≡ Member.Block → Live Q (K, p) × (num Q (K, p) ≡ n) → Live Q (blk, p) × (num Q (blk, p) ≡ n)
+  block_at n p q e F = subst (λ (J : Kind). Live Q (J, p) × (num Q (J, p) ≡ n)) (q ∙ ap (λ (v : Member). member_kind (member_of v)) e) F
 
   -- 41
   module _ (o n i : ℕ) (v : Live Q (op, o)) (q : num Q (op, o) ≡ n) where
-    pub no_index : (k : ℕ) → LengthIs l regs o m k → k ≤ i → Performed l (erase_region n i) m m (Refused 12)
+    pub no_index : (k : ℕ) → LengthIs l regs o m k → k ≤ i → Performed l (erase_region n i) m m (Err NoIndex)
     unfolding meaning named R.thing_named kind_code rows_of
     no_index k L h =
-        subst (λ (k : ℕ). Performed l (erase_region k i) m m (Refused 12)) q
-        (refuses (erase_region (num Q (op, o)) i) S 12 (passes S (erase_region (num Q (op, o)) i) (op, o) (num Q (op, o)) (omega arith) v refl refl ∙ refuse_index S.sound _ (λ _. 0) o i v (omega (arith, h, L.is))) (λ q. omega (arith, q)))
+        subst (λ (k : ℕ). Performed l (erase_region k i) m m (Err NoIndex)) q
+        (refuses (erase_region (num Q (op, o)) i) S NoIndex (passes S (erase_region (num Q (op, o)) i) (op, o) (num Q (op, o)) (omega arith) v refl refl ∙ refuse_index S.sound _ (λ _. 0) o i v (omega (arith, h, L.is))))
 
     other_default : {A : Type 0} (t : List A) (i : ℕ) (a b : A) → i < length t → get_or t i a ≡ get_or t i b
     other_default [] i a b h = absurd (omega arith)
@@ -209,37 +218,46 @@ module _ {P : State} (S : Sound P) (x : Thing) where
   lives_on k h = omega (arith, h, count_sift_0 ℕ_discrete (λ q. among (drop_list P x) (x.0, q)) x.1 (P.tab x.0).order (⊎_elim (λ z. z) (λ z. absurd (omega (arith, k, ap kind_code (use_list x z)))) (zero_or (among (drop_list P x) x))))
 
 -- 13 or 14
-pub refused_answer : {l : Layout} {x : Thing} {n : ℕ} {m s s' : List ℕ} {r : ℕ} → Tested l x n m s s' r → (r ≡ 0 → ⊥) → EraseAnswer l x n m m (Refused r)
-refused_answer T h = record { marks = T.marks; right = T.right; kept = λ c q. (refl, ap Refused (T.code ∙ q)); done = λ q. absurd (h (T.code ∙ q)) }
+pub refused_answer : {l : Layout} {x : Thing} {n : ℕ} {m s s' : List ℕ} {e : Refusal} → Tested l x n m s s' (Err e) → EraseAnswer l x n m m (Err e)
+refused_answer {e = e} T =
+    record {
+      marks = T.marks;
+      right = T.right;
+      kept = λ q. (refl, e, refl, T.code);
+      done = λ z. absurd (omega (arith, number_of-positive e, T.code, z));
+    }
 
-module _ {l : Layout} {m s s' : List ℕ} (k p : ℕ) {n r : ℕ} (C : Testable l k p m s) (T : Tested l (kind_of k, p) n m s s' r) (z : r ≡ 0) where
+module _ {l : Layout} {m s s' : List ℕ} (k : Nested) (p : ℕ) {n : ℕ} (C : Testable l k p m s) (T : Tested l (nested_kind k, p) n m s s' (Ok tt)) where
   abbrev A : State
   A = state_of l m
 
   abbrev y : Thing
-  y = (kind_of k, p)
+  y = (nested_kind k, p)
+
+  passed : ◌≡◌ {A = ℕ} 0 (erase_code A T.marks n y)
+  passed = T.code
 
   none_out : strays_in A T.marks y ≡ 0
-  none_out = no_strays (sum (strays A T.marks) (within A n y)) (strays_in A T.marks y) (sym T.code ∙ z)
+  none_out = no_strays (sum (strays A T.marks) (within A n y)) (strays_in A T.marks y) (sym passed)
 
   pub can_erase : {t : Tally} {m' : List ℕ} → Tallied l y m m' t → CanErase l y m'
   can_erase D =
       record {
         store = D.store;
-        live = subst (λ (Q : State). Live Q y) (sym D.state) (lives_on C.store.sound y (code≤ k C.kind) C.live);
+        live = subst (λ (Q : State). Live Q y) (sym D.state) (lives_on C.store.sound y (nested≤ k) C.live);
         unused = from_free (subst (λ (Q : State). Free Q y) (sym D.state) (drop_free C.store.sound y T.marks T.right none_out));
       }
 
-  pub done_answer : {t : Tally} {m₁ m₂ : List ℕ} → Tallied l y m m₁ t → Erased l y m₁ m₂ → EraseAnswer l y n m m₂ (Accepted t.freed t.ended)
+  pub done_answer : {t : Tally} {m₁ m₂ : List ℕ} → Tallied l y m m₁ t → Erased l y m₁ m₂ → EraseAnswer l y n m m₂ (Ok (t.freed, t.ended))
   done_answer {t} {m₁} D E =
       record {
         marks = T.marks;
         right = T.right;
-        kept = λ c q. absurd (omega (arith, q, T.code, z));
+        kept = λ q. absurd (q (sym passed));
         done = λ _. record {
           store = E.store;
           rest = E.rest ∙ D.rest;
           state = E.state ∙ ap (λ (Q : State). cut_all (innards Q y) Q) D.state ∙ ap (λ (t : List Thing). cut_all t (dropped A y)) (innards_dropped C.store.sound y);
-          reply = ap₂ Accepted D.freed D.ended;
+          reply = ap₂ {C = Answer} (λ (a b : ℕ). Ok (a, b)) D.freed D.ended;
         };
       }

@@ -22,12 +22,11 @@ use Rattle.places.proofs.Runs.{measure, size, falls}
 use Rattle.places.proofs.DropTurn.{append_assoc, append_nil, gather_append, list_none}
 use Rattle.places.proofs.Erase.{Free, innards_eq, innards_once, innards_stay, value_in}
 use Rattle.places.proofs.EraseTurn.{value_kind, ended_sound, erase_turn_sound, erase_turn_free, erase_turn_kids, erase_turn_ops, last_bare}
-use Rattle.context.specs.Memory.{head_code}
 use Rattle.walk.specs.Erase.{Unused}
 
--- ---- the loop over what lies in x, begun at Z, come to the code k, at Q
+-- ---- the loop over what lies in x, begun at Z, come to Q
 
-pub record Erasing (Z : State) (x : Thing) (k : ℕ) (Q : State) : Type 0 where
+pub record Erasing (Z : State) (x : Thing) (Q : State) : Type 0 where
   pub sound : Sound Z
   pub kind : kind_code x.0 ≤ 2
   pub free : Free Z x
@@ -35,13 +34,12 @@ pub record Erasing (Z : State) (x : Thing) (k : ℕ) (Q : State) : Type 0 where
   pub done : List Thing
   pub todo : List Thing
   pub parts : kids Z x ≡ done ++ todo
-  pub code : k ≡ head_code todo
   pub now : Q ≡ cut_all (gather (innards Z) done) Z
 
-pub begins : {Z : State} {x : Thing} (k : ℕ) → Sound Z → kind_code x.0 ≤ 2 → Free Z x → place_values_at Z x ≡ [] → k ≡ head_code (kids Z x) → Erasing Z x k Z
-begins {Z} {x} k S c F e h = record { sound = S; kind = c; free = F; own = e; done = []; todo = kids Z x; parts = refl; code = h; now = sym (cut_nothing Z) }
+pub begins : {Z : State} {x : Thing} → Sound Z → kind_code x.0 ≤ 2 → Free Z x → place_values_at Z x ≡ [] → Erasing Z x Z
+begins {Z} {x} S c F e = record { sound = S; kind = c; free = F; own = e; done = []; todo = kids Z x; parts = refl; now = sym (cut_nothing Z) }
 
-module _ {Z : State} {x : Thing} {k : ℕ} {Q : State} (G : Erasing Z x k Q) (y : Thing) (r : List Thing) (e : kids Z x ≡ G.done ++ (y ∷ r)) where
+module _ {Z : State} {x : Thing} {Q : State} (G : Erasing Z x Q) (y : Thing) (r : List Thing) (e : kids Z x ≡ G.done ++ (y ∷ r)) where
   abbrev d : List Thing
   d = G.done
 
@@ -82,8 +80,8 @@ module _ {Z : State} {x : Thing} {k : ℕ} {Q : State} (G : Erasing Z x k Q) (y 
       let q : size Q y ≡ size Z y = ap (λ (P : State). size P y) G.now ∙ ap (λ (P : State). size P y) (sym plain) ∙ erase_turn_ops G.sound x G.kind G.free d y r e in
       omega (arith, q, falls G.sound.linked x y (omega (arith, ap (count Thing-dec y) e, count_append Thing-dec y d (y ∷ r), tick_yes (Thing-dec y y) refl)))
 
-  unfoldable pub goes_on : {R : State} (j : ℕ) → R ≡ cut_all (innards Q y) Q → j ≡ head_code r → Erasing Z x j R
-  goes_on {R} j q h =
+  unfoldable pub goes_on : {R : State} → R ≡ cut_all (innards Q y) Q → Erasing Z x R
+  goes_on {R} q =
       record {
         sound = G.sound;
         kind = G.kind;
@@ -92,7 +90,6 @@ module _ {Z : State} {x : Thing} {k : ℕ} {Q : State} (G : Erasing Z x k Q) (y 
         done = d ++ (y ∷ []);
         todo = r;
         parts = e ∙ sym (append_assoc d (y ∷ []) r);
-        code = h;
         now =
             q
             ∙ ap₂ {C = State} (λ (v : List Thing) (P : State). cut_all v P) same G.now
@@ -101,13 +98,9 @@ module _ {Z : State} {x : Thing} {k : ℕ} {Q : State} (G : Erasing Z x k Q) (y 
       }
 
 -- the end of the loop: nothing is left in x, and with x all inside has ended
-module _ {Z : State} {x : Thing} {k : ℕ} {Q : State} (G : Erasing Z x k Q) (h : k ≡ 0) where
+module _ {Z : State} {x : Thing} {Q : State} (G : Erasing Z x Q) (h : G.todo ≡ []) where
   all : kids Z x ≡ G.done
-  all = go G.todo G.parts G.code
-    where
-      go : (t : List Thing) → kids Z x ≡ G.done ++ t → k ≡ head_code t → kids Z x ≡ G.done
-      go [] p c = p ∙ append_nil G.done
-      go (y ∷ t) p c = absurd (omega (arith, h, c))
+  all = G.parts ∙ ap {B = List Thing} (λ (t : List Thing). G.done ++ t) h ∙ append_nil G.done
 
   abbrev A : List Thing
   A = gather (innards Z) (kids Z x)
@@ -138,12 +131,12 @@ module _ {Z : State} {x : Thing} {k : ℕ} {Q : State} (G : Erasing Z x k Q) (h 
           ap sgn q
 
 -- what lies in x now is what is left to do
-pub left_kids : {Z : State} {x : Thing} {k : ℕ} {Q : State} (G : Erasing Z x k Q) → kids Q x ≡ G.todo
-left_kids {Z} {x} {k} {Q} G = go G.todo G.parts G.code
+pub left_kids : {Z : State} {x : Thing} {Q : State} (G : Erasing Z x Q) → kids Q x ≡ G.todo
+left_kids {Z} {x} {Q} G = go G.todo refl
   where
-    go : (t : List Thing) → kids Z x ≡ G.done ++ t → k ≡ head_code t → kids Q x ≡ t
-    go [] p c = no_kids G c
-    go (y ∷ t) p c = reads G y t p
+    go : (t : List Thing) → G.todo ≡ t → kids Q x ≡ G.todo
+    go [] e = no_kids G e ∙ sym e
+    go (y ∷ t) e = reads G y t (G.parts ∙ ap {B = List Thing} (λ (r : List Thing). G.done ++ r) e) ∙ sym e
 
 -- who is not cut lives on
 pub live_cut : (l : List Thing) (P : State) (a : Thing) → among l a ≡ 0 → Live P a → Live (cut_all l P) a
@@ -151,7 +144,7 @@ unfolding place_cut_by alive
 live_cut l P a z h = omega (arith, h, count_sift_0 ℕ_discrete (λ q. among l (a.0, q)) a.1 (P.tab a.0).order z)
 
 -- x lives on while what lies in it ends
-pub still_live : {Z : State} {x : Thing} {k : ℕ} {Q : State} (G : Erasing Z x k Q) → Live Z x → Live Q x
+pub still_live : {Z : State} {x : Thing} {Q : State} (G : Erasing Z x Q) → Live Z x → Live Q x
 still_live {Z} {x} G h =
     subst (λ (P : State). Live P x) (sym G.now)
     (live_cut (gather (innards Z) G.done) Z x

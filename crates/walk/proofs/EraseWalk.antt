@@ -2,105 +2,94 @@
 use mathlib.Core.Path.{◌≡◌, refl, sym, ap, ◌∙◌, subst}
 use mathlib.Core.List.{List, [], ◌∷◌, ◌++◌}
 use native.Mathlib.Omega.{arith}
-use Prim.Native.Nat.{ℕ, zero, suc, ◌+◌, ◌-◌, ◌<◌, ◌≤◌}
+use Prim.Native.Nat.{ℕ, ◌<◌, ◌≤◌}
 use lib.ListN.{length}
-use Rattle.places.specs.Store.{op, blk, reg, Thing, State, Live}
+use Rattle.std.specs.Prelude.{Option, None, Some}
+use Rattle.edit.specs.declared.Nested.{Nested}
+use Rattle.edit.specs.declared.Nested.TheVariants.{Operation, Block, Region}
+use Rattle.places.specs.Store.{Fam, Thing, State, Live}
 use Rattle.places.specs.Parts.{node_in}
 use Rattle.places.specs.Walk.{cut_all, kids, innards}
 use Rattle.places.proofs.Nest.{kind_code}
 use Rattle.places.proofs.Erase.{Free}
 use Rattle.places.proofs.Runs.{measure}
 use Rattle.context.specs.declared.Layout.{Layout}
-use Rattle.context.specs.Layout.{kind_of, fam_of, nc_of}
-use Rattle.context.specs.Memory.{part, state_of, SoundStore, head_code, FirstIs}
+use Rattle.context.specs.Layout.{cap_of, nc_of}
+use Rattle.context.specs.Memory.{part, state_of, SoundStore, first_place, FirstIs}
+use Rattle.context.specs.Nest.{nested_kind, inner_fam}
+use Rattle.context.specs.Reading.{NextIs}
 use Rattle.context.specs.Steps.{CanEnd, Ended}
 use Rattle.context.proofs.Places.{place<}
-use Rattle.walk.specs.Erase.{CanErase, Erased, OwnEnded, inner_code}
-use Rattle.walk.proofs.DropWalk.{Nests, in_op, in_region, in_block, first_code, kid_is, kid_lives}
+use Rattle.walk.specs.Erase.{CanErase, Erased, OwnEnded, inner_kind}
+use Rattle.walk.proofs.Nested.{same_place, none_some}
+use Rattle.walk.proofs.DropWalk.{Nests, in_op, in_region, in_block, first_kid, kid_is, kid_lives, row<}
 use Rattle.walk.proofs.EraseLaws.{Erasing, begins, reads, still_free, shrinks, goes_on, empty, ends, left_kids, still_live, own_none, own_measure, own_rest, own_free, own_live, to_free, from_free}
 
--- ---- what lies in a thing, by the codes of kinds
+-- ---- what lies directly in a thing
 
-pub code≤ : (k : ℕ) → k ≤ 2 → kind_code (kind_of k) ≤ 2
+pub nested≤ : (k : Nested) → kind_code (nested_kind k) ≤ 2
 unfolding kind_code
-code≤ zero h = omega arith
-code≤ (suc zero) h = omega arith
-code≤ (suc (suc zero)) h = omega arith
-code≤ (suc (suc (suc k))) h = absurd (omega arith)
+nested≤ Operation = omega arith
+nested≤ Block = omega arith
+nested≤ Region = omega arith
 
-pub inner≤ : (k : ℕ) → inner_code k ≤ 2
-inner≤ zero = omega arith
-inner≤ (suc zero) = omega arith
-inner≤ (suc (suc k)) = omega arith
+-- it is a list of one family
+pub inner : (l : Layout) (k : Nested) (p : ℕ) → Nests l (inner_fam k) (nested_kind k, p)
+inner l Operation p = in_op l p
+inner l Block p = in_block l p
+inner l Region p = in_region l p
 
-pub inner_next : (k : ℕ) → k ≤ 2 → (k ≡ 0 → ⊥) → k - 1 ≡ inner_code k
-inner_next zero h n = absurd (n refl)
-inner_next (suc zero) h n = refl
-inner_next (suc (suc zero)) h n = refl
-inner_next (suc (suc (suc k))) h n = absurd (omega arith)
+pub inner_node : (k : Nested) → node_in (inner_fam k) ≡ nested_kind (inner_kind k)
+inner_node Operation = refl
+inner_node Block = refl
+inner_node Region = refl
 
--- what lies directly in a thing of the kind k is a list of the family 3 + k
-pub inner : (l : Layout) (k p : ℕ) → k ≤ 2 → Nests l (fam_of (3 + k)) (kind_of k, p)
-inner l zero p h = in_op l p
-inner l (suc zero) p h = in_block l p
-inner l (suc (suc zero)) p h = in_region l p
-inner l (suc (suc (suc k))) p h = absurd (omega arith)
+-- its list is one of the store's
+pub inner_list : {l : Layout} {m : List ℕ} (S : SoundStore l m) (k : Nested) (p : ℕ) → Live (state_of l m) (nested_kind k, p) → p < nc_of l (inner_fam k)
+inner_list {l} S k p v = row< (inner l k p) S v
 
-pub inner_node : (k : ℕ) → k ≤ 2 → node_in (fam_of (3 + k)) ≡ kind_of (inner_code k)
-inner_node zero h = refl
-inner_node (suc zero) h = refl
-inner_node (suc (suc zero)) h = refl
-inner_node (suc (suc (suc k))) h = absurd (omega arith)
+-- a thing of a kind that is told by its own name
+pub place_as : {l : Layout} {m : List ℕ} (S : SoundStore l m) {k j : Nested} {p : ℕ} → k ≡ j → Live (state_of l m) (nested_kind k, p) → p < cap_of l (nested_kind j)
+place_as {l} {m} S {k} {j} {p} e v = place< S (nested_kind j, p) (subst (λ (i : Nested). Live (state_of l m) (nested_kind i, p)) e v)
 
-pub inner_list : {l : Layout} {m : List ℕ} (S : SoundStore l m) (k p : ℕ) → k ≤ 2 → Live (state_of l m) (kind_of k, p) → p < nc_of l (fam_of (3 + k))
-inner_list S zero p h v = place< S (op, p) v
-inner_list S (suc zero) p h v = place< S (blk, p) v
-inner_list S (suc (suc zero)) p h v = place< S (reg, p) v
-inner_list S (suc (suc (suc k))) p h v = absurd (omega arith)
+pub erase_as : {l : Layout} {m : List ℕ} {k j : Nested} {p : ℕ} → k ≡ j → CanErase l (nested_kind k, p) m → CanErase l (nested_kind j, p) m
+erase_as {l} {m} {k} {j} {p} e C = subst (λ (i : Nested). CanErase l (nested_kind i, p) m) e C
 
--- ---- the loop, begun at m₀, come to the code c
+-- the family of what lies in a thing, by its name
+pub first_as : {l : Layout} {F G : Fam} {p : ℕ} {m : List ℕ} {r : Option ℕ} → F ≡ G → FirstIs l F p m r → FirstIs l G p m r
+first_as {l} {F} {G} {p} {m} {r} e I = subst (λ (H : Fam). FirstIs l H p m r) e I
 
-pub record Going (l : Layout) (x : Thing) (m₀ m : List ℕ) (c : ℕ) : Type 0 where
+pub next_as : {l : Layout} {F G : Fam} {p : ℕ} {m : List ℕ} {r : Option ℕ} → F ≡ G → NextIs l F p m r → NextIs l G p m r
+next_as {l} {F} {G} {p} {m} {r} e I = subst (λ (H : Fam). NextIs l H p m r) e I
+
+-- ---- the loop, begun at m₀
+
+pub record Going (l : Layout) (x : Thing) (m₀ m : List ℕ) : Type 0 where
   pub store : SoundStore l m
   pub begun : Live (state_of l m₀) x
   pub rest : part l m 14 ≡ part l m₀ 14
-  pub going : Erasing (state_of l m₀) x c (state_of l m)
+  pub going : Erasing (state_of l m₀) x (state_of l m)
 
 -- the own values have ended
-module _ {l : Layout} {m m₀ : List ℕ} (k p : ℕ) (k≤ : k ≤ 2) (C : CanErase l (kind_of k, p) m) (O : OwnEnded l (kind_of k, p) m m₀) where
+module _ {l : Layout} {m m₀ : List ℕ} (k : Nested) (p : ℕ) (C : CanErase l (nested_kind k, p) m) (O : OwnEnded l (nested_kind k, p) m m₀) where
   abbrev x : Thing
-  x = (kind_of k, p)
+  x = (nested_kind k, p)
 
-  pub started_live : Live (state_of l m₀) x
-  started_live = own_live C.store.sound x (code≤ k k≤) (to_free C.unused) O.state C.live
-
-  pub started : (c : ℕ) → FirstIs l (fam_of (3 + k)) p m₀ c → Going l x m₀ m₀ c
-  started c F =
+  pub started : Going l x m₀ m₀
+  started =
       record {
         store = O.store;
-        begun = started_live;
+        begun = own_live C.store.sound x (nested≤ k) (to_free C.unused) O.state C.live;
         rest = refl;
-        going = begins c O.store.sound (code≤ k k≤) (own_free C.store.sound x (code≤ k k≤) (to_free C.unused) O.state) (own_none C.store.sound x (code≤ k k≤) (to_free C.unused) O.state) (first_code (inner l k p k≤) m₀ O.store.sound.linked c F);
-      }
-
-  -- all has ended
-  pub finished : {m₁ m₂ : List ℕ} {c : ℕ} → Going l x m₀ m₁ c → c ≡ 0 → Ended l x m₁ m₂ → Erased l x m m₂
-  finished G z E =
-      record {
-        store = E.sound;
-        rest = E.rest ∙ G.rest ∙ O.rest;
-        state = ends G.going z E.state ∙ own_rest C.store.sound x (code≤ k k≤) (to_free C.unused) O.state;
+        going = begins O.store.sound (nested≤ k) (own_free C.store.sound x (nested≤ k) (to_free C.unused) O.state) (own_none C.store.sound x (nested≤ k) (to_free C.unused) O.state);
       }
 
   pub size_kept : measure (state_of l m₀) x ≡ measure (state_of l m) x
-  size_kept = own_measure C.store.sound x (code≤ k k≤) (to_free C.unused) O.state
+  size_kept = own_measure C.store.sound x (nested≤ k) (to_free C.unused) O.state
 
-pub can_end : {l : Layout} {x : Thing} {m₀ m : List ℕ} {c : ℕ} → Going l x m₀ m c → c ≡ 0 → CanEnd (state_of l m) x
-can_end G z = record { live = still_live G.going G.begun; empty = empty G.going z }
-
-module _ {l : Layout} {m₀ m : List ℕ} (k p c j : ℕ) (k≤ : k ≤ 2) (j= : j ≡ inner_code k) (G : Going l (kind_of k, p) m₀ m c) (h : c ≡ 0 → ⊥) where
+module _ {l : Layout} {m₀ m : List ℕ} (k : Nested) (p : ℕ) (G : Going l (nested_kind k, p) m₀ m) where
   abbrev X : Thing
-  X = (kind_of k, p)
+  X = (nested_kind k, p)
 
   abbrev Z : State
   Z = state_of l m₀
@@ -108,74 +97,88 @@ module _ {l : Layout} {m₀ m : List ℕ} (k p c j : ℕ) (k≤ : k ≤ 2) (j= :
   abbrev Q : State
   Q = state_of l m
 
-  abbrev y : Thing
-  y = (kind_of j, c - 1)
+  pub in_rows : p < nc_of l (inner_fam k)
+  in_rows = inner_list G.store k p (still_live G.going G.begun)
 
-  record Next (t : List Thing) : Type 0 where
-    kid : Thing
-    later : List Thing
-    is : t ≡ kid ∷ later
-    code : c ≡ suc kid.1
+  module _ {c : Option ℕ} (F : FirstIs l (inner_fam k) p m c) where
+    first_todo : c ≡ first_place G.going.todo
+    first_todo = first_kid (inner l k p) m G.store.sound.linked c F ∙ ap first_place (left_kids G.going)
 
-  next : Next G.going.todo
-  next = go G.going.todo G.going.code
-    where
-      go : (t : List Thing) → c ≡ head_code t → Next t
-      go [] e = absurd (h e)
-      go (w ∷ t) e = record { kid = w; later = t; is = refl; code = e }
+    -- none is left
+    module _ (h : c ≡ None) where
+      none_left : G.going.todo ≡ []
+      none_left = go G.going.todo (sym h ∙ first_todo)
+        where
+          go : (t : List Thing) → ◌≡◌ {A = Option ℕ} None (first_place t) → t ≡ []
+          go [] e = refl
+          go (w ∷ t) e = absurd (none_some e)
 
-  abbrev w : Thing
-  w = next.kid
+      pub can_end : CanEnd Q X
+      can_end = record { live = still_live G.going G.begun; empty = empty G.going none_left }
 
-  abbrev r : List Thing
-  r = next.later
+      -- all has ended
+      pub finished : {m₁ m₂ : List ℕ} → CanErase l X m₁ → OwnEnded l X m₁ m₀ → Ended l X m m₂ → Erased l X m₁ m₂
+      finished C O E =
+          record {
+            store = E.sound;
+            rest = E.rest ∙ G.rest ∙ O.rest;
+            state = ends G.going none_left E.state ∙ own_rest C.store.sound X (nested≤ k) (to_free C.unused) O.state;
+          }
 
-  parts : kids Z X ≡ G.going.done ++ (w ∷ r)
-  parts = G.going.parts ∙ ap {B = List Thing} (λ (t : List Thing). G.going.done ++ t) next.is
+    -- the first that is left
+    module _ {q : ℕ} {j : Nested} (h : c ≡ Some q) (i : j ≡ inner_kind k) where
+      abbrev y : Thing
+      y = (nested_kind j, q)
 
-  now_kids : kids Q X ≡ w ∷ r
-  now_kids = reads G.going w r parts
+      record Next (t : List Thing) : Type 0 where
+        kid : Thing
+        later : List Thing
+        is : t ≡ kid ∷ later
+        at : q ≡ kid.1
 
-  kid : w ≡ y
-  kid =
-      let n : w.1 ≡ c - 1 = omega (arith, next.code) in
-      kid_is (inner l k p k≤) m G.store.sound.linked [] w r now_kids ∙ (λ i. ((inner_node k k≤ ∙ ap kind_of (sym j=)) i, n i))
+      next : Next G.going.todo
+      next = go G.going.todo (sym h ∙ first_todo)
+        where
+          go : (t : List Thing) → ◌≡◌ {A = Option ℕ} (Some q) (first_place t) → Next t
+          go [] e = absurd (none_some (sym e))
+          go (w ∷ t) e = record { kid = w; later = t; is = refl; at = same_place e }
 
-  pub child_can : CanErase l y m
-  child_can =
-      record {
-        store = G.store;
-        live = subst (λ (t : Thing). Live Q t) (sym (kid_is (inner l k p k≤) m G.store.sound.linked [] w r now_kids) ∙ kid) (kid_lives (inner l k p k≤) m G.store.sound.linked [] w r now_kids);
-        unused = from_free (subst (λ (t : Thing). Free Q t) kid (still_free G.going w r parts));
-      }
+      abbrev w : Thing
+      w = next.kid
 
-  pub child_less : measure Q y < measure Z X
-  child_less = subst (λ (t : Thing). measure Q t < measure Z X) kid (shrinks G.going w r parts)
+      abbrev r : List Thing
+      r = next.later
 
-  module _ {m' : List ℕ} (E : Erased l y m m') where
-    gone : state_of l m' ≡ cut_all (innards Q w) Q
-    gone = E.state ∙ ap (λ (t : Thing). cut_all (innards Q t) Q) (sym kid)
+      parts : kids Z X ≡ G.going.done ++ (w ∷ r)
+      parts = G.going.parts ∙ ap {B = List Thing} (λ (t : List Thing). G.going.done ++ t) next.is
 
-    G₁ : Erasing Z X (head_code r) (state_of l m')
-    G₁ = goes_on G.going w r parts (head_code r) gone refl
+      now_kids : kids Q X ≡ w ∷ r
+      now_kids = reads G.going w r parts
 
-    left : kids (state_of l m') X ≡ r
-    unfolding G₁ goes_on
-    left = left_kids G₁
+      kid : w ≡ y
+      kid = kid_is (inner l k p) m G.store.sound.linked [] w r now_kids ∙ (λ d. ((inner_node k ∙ ap nested_kind (sym i)) d, sym next.at d))
 
-    pub after_live : Live (state_of l m') X
-    after_live = still_live G₁ G.begun
+      pub child_can : CanErase l y m
+      child_can =
+          record {
+            store = G.store;
+            live = subst (λ (t : Thing). Live Q t) (sym (kid_is (inner l k p) m G.store.sound.linked [] w r now_kids) ∙ kid) (kid_lives (inner l k p) m G.store.sound.linked [] w r now_kids);
+            unused = from_free (subst (λ (t : Thing). Free Q t) kid (still_free G.going w r parts));
+          }
 
-    pub turn : (d : ℕ) → FirstIs l (fam_of (3 + k)) p m' d → Going l X m₀ m' d
-    turn d F = record { store = E.store; begun = G.begun; rest = E.rest ∙ G.rest; going = goes_on G.going w r parts d gone (first_code (inner l k p k≤) m' E.store.sound.linked d F ∙ ap head_code left) }
+      pub child_less : measure Q y < measure Z X
+      child_less = subst (λ (t : Thing). measure Q t < measure Z X) kid (shrinks G.going w r parts)
 
-    pub fewer : length (kids (state_of l m') X) < length (kids Q X)
-    fewer = omega (arith, ap length left, ap length now_kids)
+      module _ {m' : List ℕ} (E : Erased l y m m') where
+        gone : state_of l m' ≡ cut_all (innards Q w) Q
+        gone = E.state ∙ ap (λ (t : Thing). cut_all (innards Q t) Q) (sym kid)
 
--- ---- a kind by its code
+        pub turn : Going l X m₀ m'
+        turn = record { store = E.store; begun = G.begun; rest = E.rest ∙ G.rest; going = goes_on G.going w r parts gone }
 
-pub can_end_as : (P : State) (k j p : ℕ) → k ≡ j → CanEnd P (kind_of k, p) → CanEnd P (kind_of j, p)
-can_end_as P k j p e C = subst (λ (i : ℕ). CanEnd P (kind_of i, p)) e C
+        left : kids (state_of l m') X ≡ r
+        unfolding turn goes_on
+        left = left_kids turn.going
 
-pub ended_as : {l : Layout} {m m' : List ℕ} (k j p : ℕ) → k ≡ j → Ended l (kind_of j, p) m m' → Ended l (kind_of k, p) m m'
-ended_as {l} {m} {m'} k j p e E = subst (λ (i : ℕ). Ended l (kind_of i, p) m m') (sym e) E
+        pub fewer : length (kids (state_of l m') X) < length (kids Q X)
+        fewer = omega (arith, ap length left, ap length now_kids)

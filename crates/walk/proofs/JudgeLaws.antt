@@ -5,7 +5,10 @@ use mathlib.Core.Bool.{Bool, true, false, ◌&&◌, ◌||◌}
 use mathlib.Core.List.{List, [], ◌∷◌, ◌++◌}
 use mathlib.Core.Option.{Option, none, some}
 use native.Mathlib.Omega.{arith}
-use Prim.Native.Nat.{ℕ, zero, suc, ◌+◌, ◌-◌, ◌*◌, ◌<◌, ◌≤◌}
+use Prim.Native.Nat.{ℕ, ◌+◌, ◌*◌, ◌<◌, ◌≤◌}
+use Rattle.std.specs.Prelude as Rust
+use Rattle.std.specs.Prelude.{None, Some, Ok, Err}
+use Rattle.std.specs.Option.{ok_or, option_eq}
 use Rattle.seqs.specs.Seqs.{count, In, seq_last_of}
 use Rattle.places.specs.Store.{op, blk, reg, usg, successors, block_uses, regions, ops, Fam, slots, use_sets, regs, ops_in, blocks_in, Thing, Thing-dec, Con, Con-dec, State, Live, Link, outer, up}
 use Rattle.places.specs.Parts.{node_in, rows_of, con_of}
@@ -14,19 +17,21 @@ use Rattle.rules.specs.Table.{some_and}
 use Rattle.rules.specs.Verdict.{is_clean}
 use Rattle.edit.specs.Answer.{Reply, clean, refuse, found}
 use Rattle.places.specs.Verdict.{as_bool, place_first_met, last_thing, follows, is_held_by, terminates, lackable, place_ends_well, place_names_block, place_leads_to, place_stray_user, place_lost_pred, place_in_block, place_block_verdict, place_region_verdict, place_too_early}
+use borrow.Author.Tests.{eqb-true, eqb-false}
 use Rattle.seqs.proofs.Base.{tick_yes, tick_no, count_append, in_head, in_tail}
-use Rattle.places.proofs.Steps.{some_none, thing_eq, listed, once}
+use Rattle.places.proofs.Steps.{thing_eq, listed, once}
 use Rattle.places.proofs.Nest.{is_nest, fam_role, role_is}
 use Rattle.places.proofs.VerdictWalk.{verdict_eq}
 use Rattle.context.specs.declared.Layout.{Layout}
 use Rattle.context.specs.Layout.{nc_of}
-use Rattle.context.specs.Memory.{con, state_of, decode, SoundStore, head_code, HomeIs}
-use Rattle.context.specs.Reading.{list_of, last_code, NextIs, LastIs, NumberIs, UserIs}
+use Rattle.context.specs.Memory.{con, state_of, given, SoundStore, first_place, HomeIs}
+use Rattle.context.specs.Reading.{list_of, last_place, NextIs, LastIs, NumberIs, UserIs}
 use Rattle.context.proofs.Families.{con_back}
 use Rattle.context.proofs.Places.{place<}
 use Rattle.walk.specs.Judge.{on_op, alone, user_leads}
+use Rattle.context.proofs.Users.{con_block_uses, around_none, around_some}
 use Rattle.context.proofs.Cursor.{row, single}
-use Rattle.context.proofs.Users.{con_block_uses, around_none, around_some, op_free, op_in}
+use Rattle.walk.proofs.Nested.{same_place, none_some}
 use Rattle.walk.proofs.OwnUses.{con_successors}
 
 -- ---- booleans
@@ -52,9 +57,13 @@ met_over f t l e q = ap (place_first_met f) (sym q) ∙ e
 
 -- ---- the last of a list
 
-pub last_code_lem : (l : List Thing) (k : ℕ) → k ≡ last_code l → (k ≡ 0 → last_thing l ≡ none) × ((k ≡ 0 → ⊥) → (y : Thing) × (last_thing l ≡ some y) × (k ≡ suc y.1) × In Thing-dec y l)
-last_code_lem [] k e = (λ _. refl, λ h. absurd (h e))
-last_code_lem (x ∷ l) k e = (λ h. absurd (omega (arith, h, e)), λ _. (seq_last_of x l, is x l, e, inside x l))
+last_none_lem : (l : List Thing) → ◌≡◌ {A = Rust.Option ℕ} None (last_place l) → last_thing l ≡ none
+last_none_lem [] e = refl
+last_none_lem (x ∷ l) e = absurd (none_some e)
+
+last_some_lem : {p : ℕ} (l : List Thing) → ◌≡◌ {A = Rust.Option ℕ} (Some p) (last_place l) → (y : Thing) × (last_thing l ≡ some y) × (p ≡ y.1) × In Thing-dec y l
+last_some_lem [] e = absurd (none_some (sym e))
+last_some_lem (x ∷ l) e = (seq_last_of x l, is x l, same_place e, inside x l)
   where
     is : (x : Thing) (l : List Thing) → last_thing (x ∷ l) ≡ some (seq_last_of x l)
     is x [] = refl
@@ -82,10 +91,10 @@ follow_split o (x ∷ a) b h =
     follow_skip o x a b (λ e. absurd (omega (arith, h, tick_yes (Thing-dec o x) (sym e), count_append Thing-dec o a (o ∷ b), in_head Thing-dec o b)))
     ∙ follow_split o a b (omega (arith, h))
 
-some_code : (k : ℕ) (b : List Thing) → k ≡ head_code b → (k ≡ 0 → some_in b ≡ false) × ((k ≡ 0 → ⊥) → some_in b ≡ true)
+first_in : (b : List Thing) → some_in b ≡ Rust.is_some (first_place b)
 unfolding some_in
-some_code k [] e = (λ _. refl, λ n. absurd (n e))
-some_code k (y ∷ b) e = (λ z. absurd (omega (arith, z, e)), λ _. refl)
+first_in [] = refl
+first_in (y ∷ b) = refl
 
 split_in : (x : Thing) (l : List Thing) → In Thing-dec x l → (a : List Thing) × (b : List Thing) × (l ≡ a ++ (x ∷ b))
 split_in x [] i = absurd (omega arith)
@@ -106,65 +115,84 @@ held_off l b k n =
     as_no (Con-dec (con l use_sets k) (block_uses, (blk, b)))
     (λ e. n (sym (con_back l.values l.ops use_sets k).number ∙ ap (λ (c : Con). (rows_of l.values l.ops).row c.0 c.1.1) e))
 
--- by what is stored
-pub held_by : (l : Layout) (b h : ℕ) (o : Option Con) → o ≡ con_of (con l use_sets) (decode h) → ((h ≡ l.values + b + 1) → is_held_by o (block_uses, (blk, b)) ≡ true) × ((h ≡ l.values + b + 1 → ⊥) → is_held_by o (block_uses, (blk, b)) ≡ false)
-held_by l b zero o e = (λ q. absurd (omega (arith, q)), λ _. ap (λ (c : Option Con). is_held_by c (block_uses, (blk, b))) e)
-held_by l b (suc k) o e = (
-  λ q. ap (λ (c : Option Con). is_held_by c (block_uses, (blk, b))) e ∙ held_at l b k (omega (arith, q)),
-  λ n. ap (λ (c : Option Con). is_held_by c (block_uses, (blk, b))) e ∙ held_off l b k (λ q. n (omega (arith, q))),
-)
+-- an option that a refusal stands for
+pub was_some : {A E : Type 0} {r : Rust.Option A} (e : E) {n : A} → ok_or r e ≡ Ok n → r ≡ Some n
+was_some {r = None} e h = let z : ◌≡◌ {A = ℕ} 0 1 = cc in absurd (omega arith)
+was_some {r = Some x} e h = cc
 
--- what lies around: by the number stored for it
+pub was_none : {A E : Type 0} {r : Rust.Option A} (e : E) {x : E} → ok_or r e ≡ Err x → (r ≡ None) × (x ≡ e)
+was_none {r = None} e h = (refl, cc)
+was_none {r = Some x} e h = let z : ◌≡◌ {A = ℕ} 0 1 = cc in absurd (omega arith)
+
+-- by the list that it stands in
+pub held_by : (l : Layout) (b : ℕ) (h : Rust.Option ℕ) (o : Option Con) → o ≡ con_of (con l use_sets) (given h) → option_eq Rust.nat_eq h (Some (l.values + b)) ≡ is_held_by o (block_uses, (blk, b))
+held_by l b None o e = sym (ap (λ (c : Option Con). is_held_by c (block_uses, (blk, b))) e)
+held_by l b (Some k) o e =
+    go (Rust.nat_eq k (l.values + b)) refl ∙ sym (ap (λ (c : Option Con). is_held_by c (block_uses, (blk, b))) e)
+  where
+    go : (t : Bool) → Rust.nat_eq k (l.values + b) ≡ t → Rust.nat_eq k (l.values + b) ≡ is_held_by (some (con l use_sets k)) (block_uses, (blk, b))
+    go true q = q ∙ sym (held_at l b k (omega (arith, eqb-true k (l.values + b) q)))
+    go false q = q ∙ sym (held_off l b k (λ w. eqb-false k (l.values + b) q w))
+
+-- what a test of an option's place gave: r is q where there is none, and else what the test gave
+pub tested : (k : Rust.Option ℕ) {r q : Bool} {Post : ℕ → Type 0} → Rust.MatchOption k (r ≡ false) Post → (k ≡ None → false ≡ q) → ((p : ℕ) → k ≡ Some p → Post p → r ≡ q) → r ≡ q
+tested None e z h = e ∙ z refl
+tested (Some p) e z h = h p refl e
+
+-- what lies around
 module _ {l : Layout} {m : List ℕ} (S : SoundStore l m) where
   abbrev P : State
   P = state_of l m
 
   -- what it lies in lives
-  pub around_live : (f : Fam) (n k : ℕ) → P.own (node_in f, n) f ≡ some (con l f k) → Live P (con l f k).1
+  around_live : (f : Fam) (n k : ℕ) → P.own (node_in f, n) f ≡ some (con l f k) → Live P (con l f k).1
   around_live f n k e = (S.sound.linked.link (node_in f, n) f (con l f k) e).home
 
   -- the block of an operation
-  pub op_in_live : (o h : ℕ) → HomeIs l ops_in o m h → (h ≡ 0 → ⊥) → Live P (blk, h - 1)
+  pub op_in_live : (o : ℕ) {h : Rust.Option ℕ} {k : ℕ} → HomeIs l ops_in o m h → h ≡ Some k → Live P (blk, k)
   unfolding rows_of
-  op_in_live o h H z = around_live ops_in o (h - 1) (around_some ops_in o h H z)
+  op_in_live o {h} {k} H z = around_live ops_in o k (around_some H z)
 
   -- the region of a block, the operation of a region
-  pub block_free : (b h : ℕ) → HomeIs l blocks_in b m h → h ≡ 0 → up P (blk, b) ≡ none
+  block_free : (b : ℕ) {h : Rust.Option ℕ} → HomeIs l blocks_in b m h → h ≡ None → up P (blk, b) ≡ none
   unfolding up
-  block_free b h H z = ap outer (around_none blocks_in b h H z)
+  block_free b H z = ap outer (around_none H z)
 
-  pub block_in : (b h : ℕ) → HomeIs l blocks_in b m h → (h ≡ 0 → ⊥) → up P (blk, b) ≡ some (reg, h - 1)
+  block_in : (b : ℕ) {h : Rust.Option ℕ} {r : ℕ} → HomeIs l blocks_in b m h → h ≡ Some r → up P (blk, b) ≡ some (reg, r)
   unfolding up rows_of
-  block_in b h H z = ap outer (around_some blocks_in b h H z)
+  block_in b H z = ap outer (around_some H z)
 
-  pub block_in_live : (b h : ℕ) → HomeIs l blocks_in b m h → (h ≡ 0 → ⊥) → Live P (reg, h - 1)
+  pub block_in_live : (b : ℕ) {h : Rust.Option ℕ} {r : ℕ} → HomeIs l blocks_in b m h → h ≡ Some r → Live P (reg, r)
   unfolding rows_of
-  block_in_live b h H z = around_live blocks_in b (h - 1) (around_some blocks_in b h H z)
+  block_in_live b {h} {r} H z = around_live blocks_in b r (around_some H z)
 
-  pub region_there : (r h : ℕ) → Live P (reg, r) → HomeIs l regs r m h → h ≡ 0 → ⊥
-  region_there r h v H z = some_none (S.sound.placed (reg, r) v).1 (around_none regs r h H z)
-
-  pub region_pos : (r h : ℕ) → Live P (reg, r) → HomeIs l regs r m h → 0 < h
-  region_pos r zero v H = absurd (region_there r 0 v H refl)
-  region_pos r (suc h) v H = omega arith
-
-  pub region_in : (r h : ℕ) → Live P (reg, r) → HomeIs l regs r m h → up P (reg, r) ≡ some (op, h - 1)
+  region_in : (r : ℕ) {h : Rust.Option ℕ} {o : ℕ} → HomeIs l regs r m h → h ≡ Some o → up P (reg, r) ≡ some (op, o)
   unfolding up rows_of
-  region_in r h v H = ap outer (around_some regs r h H (region_there r h v H))
+  region_in r H z = ap outer (around_some H z)
 
-  pub region_in_live : (r h : ℕ) → Live P (reg, r) → HomeIs l regs r m h → Live P (op, h - 1)
+  pub region_in_live : (r : ℕ) {h : Rust.Option ℕ} {o : ℕ} → HomeIs l regs r m h → h ≡ Some o → Live P (op, o)
   unfolding rows_of
-  region_in_live r h v H = around_live regs r (h - 1) (around_some regs r h H (region_there r h v H))
+  region_in_live r {h} {o} H z = around_live regs r o (around_some H z)
 
   -- ---- the tests of a use
 
-  pub leads_none : (b u r h : ℕ) → UserIs l u m r → HomeIs l ops_in r m h → h ≡ 0 → user_leads P (blk, b) (usg, u) ≡ false
-  unfolding some_and
-  leads_none b u r h U H z = ap (λ (o : Option Thing). some_and o (λ q. some_and (up P q) (place_leads_to P (blk, b)))) U.is ∙ ap (λ (o : Option Thing). some_and o (place_leads_to P (blk, b))) (op_free S r h H z)
+  op_up : (o : ℕ) {h : Rust.Option ℕ} → HomeIs l ops_in o m h → up P (op, o) ≡ outer (con_of (con l ops_in) (given h))
+  unfolding up
+  op_up o H = ap outer H.own
 
-  pub leads_some : (b u r h : ℕ) → UserIs l u m r → HomeIs l ops_in r m h → (h ≡ 0 → ⊥) → user_leads P (blk, b) (usg, u) ≡ place_leads_to P (blk, b) (blk, h - 1)
+  user_up : {u r : ℕ} {h : Rust.Option ℕ} (b : ℕ) → UserIs l u m r → HomeIs l ops_in r m h → user_leads P (blk, b) (usg, u) ≡ some_and (outer (con_of (con l ops_in) (given h))) (place_leads_to P (blk, b))
   unfolding some_and
-  leads_some b u r h U H z = ap (λ (o : Option Thing). some_and o (λ q. some_and (up P q) (place_leads_to P (blk, b)))) U.is ∙ ap (λ (o : Option Thing). some_and o (place_leads_to P (blk, b))) (op_in S r h H z)
+  user_up {u} {r} b U H =
+      ap (λ (o : Option Thing). some_and o (λ q. some_and (up P q) (place_leads_to P (blk, b)))) U.is
+      ∙ ap (λ (o : Option Thing). some_and o (place_leads_to P (blk, b))) (op_up r H)
+
+  pub leads_none : {u r : ℕ} {h : Rust.Option ℕ} (b : ℕ) → UserIs l u m r → HomeIs l ops_in r m h → h ≡ None → false ≡ user_leads P (blk, b) (usg, u)
+  unfolding some_and
+  leads_none b U H z = sym (user_up b U H ∙ ap (λ (i : Rust.Option ℕ). some_and (outer (con_of (con l ops_in) (given i))) (place_leads_to P (blk, b))) z)
+
+  pub leads_some : {u r p : ℕ} {h : Rust.Option ℕ} (b : ℕ) → UserIs l u m r → HomeIs l ops_in r m h → h ≡ Some p → place_leads_to P (blk, b) (blk, p) ≡ user_leads P (blk, b) (usg, u)
+  unfolding some_and rows_of
+  leads_some b U H z = sym (user_up b U H ∙ ap (λ (i : Rust.Option ℕ). some_and (outer (con_of (con l ops_in) (given i))) (place_leads_to P (blk, b))) z)
 
   -- ---- the last operation of a block
 
@@ -172,37 +200,31 @@ module _ {l : Layout} {m : List ℕ} (S : SoundStore l m) where
   unfolding rows_of
   list_ops b = refl
 
-  pub last_none : (b k : ℕ) → LastIs l ops_in b m k → k ≡ 0 → last_thing (P.list (blk, b) ops) ≡ none
-  last_none b k L z = (last_code_lem (P.list (blk, b) ops) k (L.is ∙ ap last_code (list_ops b))).0 z
+  last_none : (b : ℕ) {k : Rust.Option ℕ} → LastIs l ops_in b m k → k ≡ None → last_thing (P.list (blk, b) ops) ≡ none
+  last_none b L z = last_none_lem (P.list (blk, b) ops) (sym z ∙ L.is ∙ ap last_place (list_ops b))
 
-  pub last_some : (b k : ℕ) → LastIs l ops_in b m k → (k ≡ 0 → ⊥) → (last_thing (P.list (blk, b) ops) ≡ some (op, k - 1)) × Live P (op, k - 1)
-  last_some b k L z =
-      let w : (y : Thing) × (last_thing (P.list (blk, b) ops) ≡ some y) × (k ≡ suc y.1) × In Thing-dec y (P.list (blk, b) ops) = (last_code_lem (P.list (blk, b) ops) k (L.is ∙ ap last_code (list_ops b))).1 z in
+  pub last_some : (b : ℕ) {k : Rust.Option ℕ} {p : ℕ} → LastIs l ops_in b m k → k ≡ Some p → (last_thing (P.list (blk, b) ops) ≡ some (op, p)) × Live P (op, p)
+  last_some b {k} {p} L z =
+      let w : (y : Thing) × (last_thing (P.list (blk, b) ops) ≡ some y) × (p ≡ y.1) × In Thing-dec y (P.list (blk, b) ops) = last_some_lem (P.list (blk, b) ops) (sym z ∙ L.is ∙ ap last_place (list_ops b)) in
       let K : Link P w.0 ops_in (ops, (blk, b)) = S.sound.linked.link w.0 ops_in (ops, (blk, b)) (listed S.sound.linked w.0 (blk, b) ops w.3) in
-      let e : w.0 ≡ (op, k - 1) = thing_eq w.0 (op, k - 1) K.node (omega (arith, w.2)) in
+      let e : w.0 ≡ (op, p) = thing_eq w.0 (op, p) K.node (sym w.2) in
       (w.1 ∙ ap some e, subst (λ (y : Thing). Live P y) e K.live)
 
-  pub ends_none : (b k : ℕ) → LastIs l ops_in b m k → k ≡ 0 → false ≡ place_ends_well P (blk, b)
+  pub ends_none : (b : ℕ) {k : Rust.Option ℕ} → LastIs l ops_in b m k → k ≡ None → false ≡ place_ends_well P (blk, b)
   unfolding place_ends_well some_and
-  ends_none b k L z = ap (λ (o : Option Thing). some_and o (terminates P)) (sym (last_none b k L z))
+  ends_none b L z = ap (λ (o : Option Thing). some_and o (terminates P)) (sym (last_none b L z))
 
-  pub ends_some : (b k : ℕ) → LastIs l ops_in b m k → (k ≡ 0 → ⊥) → terminates P (op, k - 1) ≡ place_ends_well P (blk, b)
+  pub ends_some : (b : ℕ) {k : Rust.Option ℕ} {p : ℕ} → LastIs l ops_in b m k → k ≡ Some p → terminates P (op, p) ≡ place_ends_well P (blk, b)
   unfolding place_ends_well some_and
-  ends_some b k L z = ap (λ (o : Option Thing). some_and o (terminates P)) (sym (last_some b k L z).0)
+  ends_some b L z = ap (λ (o : Option Thing). some_and o (terminates P)) (sym (last_some b L z).0)
 
-  pub leads_empty : (b p k : ℕ) → LastIs l ops_in p m k → k ≡ 0 → false ≡ place_leads_to P (blk, b) (blk, p)
+  pub leads_empty : (b p : ℕ) {k : Rust.Option ℕ} → LastIs l ops_in p m k → k ≡ None → false ≡ place_leads_to P (blk, b) (blk, p)
   unfolding place_leads_to some_and
-  leads_empty b p k L z = ap (λ (q : Option Thing). some_and q (λ o. terminates P o && place_names_block P (blk, b) o)) (sym (last_none p k L z))
+  leads_empty b p L z = ap (λ (q : Option Thing). some_and q (λ o. terminates P o && place_names_block P (blk, b) o)) (sym (last_none p L z))
 
-  pub leads_last : (b p k : ℕ) → LastIs l ops_in p m k → (k ≡ 0 → ⊥) → (terminates P (op, k - 1) && place_names_block P (blk, b) (op, k - 1)) ≡ place_leads_to P (blk, b) (blk, p)
+  pub leads_last : (b p : ℕ) {k : Rust.Option ℕ} {o : ℕ} → LastIs l ops_in p m k → k ≡ Some o → (terminates P (op, o) && place_names_block P (blk, b) (op, o)) ≡ place_leads_to P (blk, b) (blk, p)
   unfolding place_leads_to some_and
-  leads_last b p k L z = ap (λ (q : Option Thing). some_and q (λ o. terminates P o && place_names_block P (blk, b) o)) (sym (last_some p k L z).0)
-
-  pub leads_no : (b p k : ℕ) → LastIs l ops_in p m k → (k ≡ 0 → ⊥) → terminates P (op, k - 1) ≡ false → false ≡ place_leads_to P (blk, b) (blk, p)
-  leads_no b p k L z e = sym (ap (λ (t : Bool). t && place_names_block P (blk, b) (op, k - 1)) e) ∙ leads_last b p k L z
-
-  pub leads_yes : (b p k : ℕ) → LastIs l ops_in p m k → (k ≡ 0 → ⊥) → terminates P (op, k - 1) ≡ true → place_names_block P (blk, b) (op, k - 1) ≡ place_leads_to P (blk, b) (blk, p)
-  leads_yes b p k L z e = sym (ap (λ (t : Bool). t && place_names_block P (blk, b) (op, k - 1)) e) ∙ leads_last b p k L z
+  leads_last b p L z = ap (λ (q : Option Thing). some_and q (λ o. terminates P o && place_names_block P (blk, b) o)) (sym (last_some p L z).0)
 
   -- ---- the lists that are searched
 
@@ -214,50 +236,51 @@ module _ {l : Layout} {m : List ℕ} (S : SoundStore l m) where
 
   -- ---- the end of a block
 
-  pub or_first : (b r h : ℕ) → Live P (reg, r) → HomeIs l regs r m h → lackable P (op, h - 1) ≡ true → true ≡ (some_and (up P (reg, r)) (lackable P) || place_ends_well P (blk, b))
+  well_is : (b r : ℕ) {h : Rust.Option ℕ} {o : ℕ} → HomeIs l regs r m h → h ≡ Some o → (lackable P (op, o) || place_ends_well P (blk, b)) ≡ (some_and (up P (reg, r)) (lackable P) || place_ends_well P (blk, b))
   unfolding some_and
-  or_first b r h v H e = sym (ap (λ (o : Option Thing). some_and o (lackable P) || place_ends_well P (blk, b)) (region_in r h v H) ∙ ap (λ (c : Bool). c || place_ends_well P (blk, b)) e)
+  well_is b r H z = sym (ap (λ (o : Option Thing). some_and o (lackable P) || place_ends_well P (blk, b)) (region_in r H z))
 
-  pub or_second : (b r h : ℕ) → Live P (reg, r) → HomeIs l regs r m h → lackable P (op, h - 1) ≡ false → place_ends_well P (blk, b) ≡ (some_and (up P (reg, r)) (lackable P) || place_ends_well P (blk, b))
-  unfolding some_and
-  or_second b r h v H e = sym (ap (λ (o : Option Thing). some_and o (lackable P) || place_ends_well P (blk, b)) (region_in r h v H) ∙ ap (λ (c : Bool). c || place_ends_well P (blk, b)) e)
+  pub well_first : (b r : ℕ) {h : Rust.Option ℕ} {o : ℕ} → HomeIs l regs r m h → h ≡ Some o → true ≡ lackable P (op, o) → true ≡ (some_and (up P (reg, r)) (lackable P) || place_ends_well P (blk, b))
+  well_first b r H z e = ap (λ (c : Bool). c || place_ends_well P (blk, b)) e ∙ well_is b r H z
+
+  pub well_second : (b r : ℕ) {h : Rust.Option ℕ} {o : ℕ} → HomeIs l regs r m h → h ≡ Some o → false ≡ lackable P (op, o) → place_ends_well P (blk, b) ≡ (some_and (up P (reg, r)) (lackable P) || place_ends_well P (blk, b))
+  well_second b r H z e = ap (λ (c : Bool). c || place_ends_well P (blk, b)) e ∙ well_is b r H z
 
   -- ---- a terminator with a next operation
 
   abbrev next? : ℕ → Bool
   next? o = some_and (up P (op, o)) (λ b. follows (op, o) (P.list b ops))
 
-  next_is : (o k : ℕ) → NextIs l ops_in o m k → (k ≡ 0 → next? o ≡ false) × ((k ≡ 0 → ⊥) → next? o ≡ true)
+  next_is : (o : ℕ) {k : Rust.Option ℕ} → NextIs l ops_in o m k → next? o ≡ Rust.is_some k
   unfolding some_and up is_nest fam_role
-  next_is o k N = go (P.own (op, o) ops_in) refl
+  next_is o {k} N = go (P.own (op, o) ops_in) refl
     where
-      go : (q : Option Con) → P.own (op, o) ops_in ≡ q → (k ≡ 0 → some_and (outer q) (λ b. follows (op, o) (P.list b ops)) ≡ false) × ((k ≡ 0 → ⊥) → some_and (outer q) (λ b. follows (op, o) (P.list b ops)) ≡ true)
-      go none e = (λ _. refl, λ n. absurd (n (N.none e)))
+      go : (q : Option Con) → P.own (op, o) ops_in ≡ q → some_and (outer q) (λ b. follows (op, o) (P.list b ops)) ≡ Rust.is_some k
+      go none e = sym (ap Rust.is_some (N.none e))
       go (some c) e =
           let r : c.0 ≡ ops = role_is S.sound.linked (op, o) ops_in c refl e in
           let e' : P.own (op, o) ops_in ≡ some (ops, c.1) = e ∙ ap some (λ i. (r i, c.1)) in
           let w : (a : List Thing) × (b : List Thing) × (P.list c.1 ops ≡ a ++ ((op, o) ∷ b)) = split_in (op, o) (P.list c.1 ops) (omega (arith, once S.sound.linked (op, o) ops_in (ops, c.1) e')) in
           let f : follows (op, o) (P.list c.1 ops) ≡ some_in w.1 = ap (follows (op, o)) w.2 ∙ follow_split (op, o) w.0 w.1 (omega (arith, ap (count Thing-dec (op, o)) w.2, (single S.sound.linked c.1 ops).once (op, o))) in
-          let h : k ≡ head_code w.1 = N.after (ops, c.1) e' w.0 w.1 w.2 in
-          (λ z. f ∙ (some_code k w.1 h).0 z, λ z. f ∙ (some_code k w.1 h).1 z)
+          f ∙ first_in w.1 ∙ sym (ap Rust.is_some (N.after (ops, c.1) e' w.0 w.1 w.2))
 
   pub no_end : (o : ℕ) → terminates P (op, o) ≡ false → clean ≡ place_too_early P (op, o)
   unfolding place_too_early
   no_end o t = sym (ap {B = Reply} (λ (b : Bool). elim (b && next? o) [ true ↦ found 3 (num P (op, o)) | false ↦ clean ]) t)
 
-  pub good_end : (o k : ℕ) → NextIs l ops_in o m k → terminates P (op, o) ≡ true → k ≡ 0 → clean ≡ place_too_early P (op, o)
+  pub good_end : (o : ℕ) {k : Rust.Option ℕ} → NextIs l ops_in o m k → terminates P (op, o) ≡ true → Rust.is_some k ≡ false → clean ≡ place_too_early P (op, o)
   unfolding place_too_early
-  good_end o k N t z = sym (ap₂ {C = Reply} (λ (b c : Bool). elim (b && c) [ true ↦ found 3 (num P (op, o)) | false ↦ clean ]) t ((next_is o k N).0 z))
+  good_end o N t z = sym (ap₂ {C = Reply} (λ (b c : Bool). elim (b && c) [ true ↦ found 3 (num P (op, o)) | false ↦ clean ]) t (next_is o N ∙ z))
 
-  pub early_end : (o k n : ℕ) → NextIs l ops_in o m k → terminates P (op, o) ≡ true → (k ≡ 0 → ⊥) → NumberIs l op o m n → found 3 n ≡ place_too_early P (op, o)
+  pub early_end : (o n : ℕ) {k : Rust.Option ℕ} → NextIs l ops_in o m k → terminates P (op, o) ≡ true → Rust.is_some k ≡ true → NumberIs l op o m n → found 3 n ≡ place_too_early P (op, o)
   unfolding place_too_early
-  early_end o k n N t z M = ap (found 3) M.is ∙ sym (ap₂ {C = Reply} (λ (b c : Bool). elim (b && c) [ true ↦ found 3 (num P (op, o)) | false ↦ clean ]) t ((next_is o k N).1 z))
+  early_end o n N t z M = ap (found 3) M.is ∙ sym (ap₂ {C = Reply} (λ (b c : Bool). elim (b && c) [ true ↦ found 3 (num P (op, o)) | false ↦ clean ]) t (next_is o N ∙ z))
 
   -- ---- a block by itself
 
-  pub alone_1 : (b h n : ℕ) → HomeIs l blocks_in b m h → h ≡ 0 → NumberIs l blk b m n → found 1 n ≡ alone P (blk, b)
+  pub alone_1 : (b n : ℕ) {h : Rust.Option ℕ} → HomeIs l blocks_in b m h → h ≡ None → NumberIs l blk b m n → found 1 n ≡ alone P (blk, b)
   unfolding place_block_verdict place_in_block
-  alone_1 b h n H z N = ap (found 1) N.is ∙ ap (place_in_block P (λ _. clean) (blk, b)) (sym (block_free b h H z))
+  alone_1 b n H z N = ap (found 1) N.is ∙ ap (place_in_block P (λ _. clean) (blk, b)) (sym (block_free b H z))
 
   abbrev shape : ℕ → Bool → Bool → Bool → Reply → Reply
   shape b c st lp r = elim c [ false ↦ found 2 (num P (blk, b)) | true ↦ elim st [ true ↦ refuse 18 | false ↦ elim lp [ true ↦ found 4 (num P (blk, b)) | false ↦ r ] ] ]
@@ -265,34 +288,34 @@ module _ {l : Layout} {m : List ℕ} (S : SoundStore l m) where
   abbrev well? : ℕ → ℕ → Bool
   well? b r = some_and (up P (reg, r)) (lackable P) || place_ends_well P (blk, b)
 
-  alone_in : (b h : ℕ) → HomeIs l blocks_in b m h → (h ≡ 0 → ⊥) → shape b (well? b (h - 1)) (place_stray_user P (blk, b)) (place_lost_pred P (blk, b)) (place_first_met (λ _. clean) (P.list (blk, b) ops)) ≡ alone P (blk, b)
+  alone_in : (b : ℕ) {h : Rust.Option ℕ} {r : ℕ} → HomeIs l blocks_in b m h → h ≡ Some r → shape b (well? b r) (place_stray_user P (blk, b)) (place_lost_pred P (blk, b)) (place_first_met (λ _. clean) (P.list (blk, b) ops)) ≡ alone P (blk, b)
   unfolding place_block_verdict place_in_block
-  alone_in b h H z = ap (place_in_block P (λ _. clean) (blk, b)) (sym (block_in b h H z))
+  alone_in b H z = ap (place_in_block P (λ _. clean) (blk, b)) (sym (block_in b H z))
 
-  pub alone_2 : (b h n : ℕ) → HomeIs l blocks_in b m h → (h ≡ 0 → ⊥) → NumberIs l blk b m n → well? b (h - 1) ≡ false → found 2 n ≡ alone P (blk, b)
-  alone_2 b h n H z N w = ap (found 2) N.is ∙ sym (ap (λ (c : Bool). shape b c (place_stray_user P (blk, b)) (place_lost_pred P (blk, b)) (place_first_met (λ _. clean) (P.list (blk, b) ops))) w) ∙ alone_in b h H z
+  pub alone_2 : (b n : ℕ) {h : Rust.Option ℕ} {r : ℕ} → HomeIs l blocks_in b m h → h ≡ Some r → NumberIs l blk b m n → well? b r ≡ false → found 2 n ≡ alone P (blk, b)
+  alone_2 b n H z N w = ap (found 2) N.is ∙ sym (ap (λ (c : Bool). shape b c (place_stray_user P (blk, b)) (place_lost_pred P (blk, b)) (place_first_met (λ _. clean) (P.list (blk, b) ops))) w) ∙ alone_in b H z
 
-  pub alone_18 : (b h : ℕ) → HomeIs l blocks_in b m h → (h ≡ 0 → ⊥) → well? b (h - 1) ≡ true → place_stray_user P (blk, b) ≡ true → refuse 18 ≡ alone P (blk, b)
-  alone_18 b h H z w s = sym (ap₂ {C = Reply} (λ (c st : Bool). shape b c st (place_lost_pred P (blk, b)) (place_first_met (λ _. clean) (P.list (blk, b) ops))) w s) ∙ alone_in b h H z
+  pub alone_18 : (b : ℕ) {h : Rust.Option ℕ} {r : ℕ} → HomeIs l blocks_in b m h → h ≡ Some r → well? b r ≡ true → place_stray_user P (blk, b) ≡ true → refuse 18 ≡ alone P (blk, b)
+  alone_18 b H z w s = sym (ap₂ {C = Reply} (λ (c st : Bool). shape b c st (place_lost_pred P (blk, b)) (place_first_met (λ _. clean) (P.list (blk, b) ops))) w s) ∙ alone_in b H z
 
-  pub alone_4 : (b h n : ℕ) → HomeIs l blocks_in b m h → (h ≡ 0 → ⊥) → NumberIs l blk b m n → well? b (h - 1) ≡ true → place_stray_user P (blk, b) ≡ false → place_lost_pred P (blk, b) ≡ true → found 4 n ≡ alone P (blk, b)
-  alone_4 b h n H z N w s p =
+  pub alone_4 : (b n : ℕ) {h : Rust.Option ℕ} {r : ℕ} → HomeIs l blocks_in b m h → h ≡ Some r → NumberIs l blk b m n → well? b r ≡ true → place_stray_user P (blk, b) ≡ false → place_lost_pred P (blk, b) ≡ true → found 4 n ≡ alone P (blk, b)
+  alone_4 b n H z N w s p =
       ap (found 4) N.is
       ∙ sym (ap (λ (lp : Bool). shape b true false lp (place_first_met (λ _. clean) (P.list (blk, b) ops))) p)
       ∙ sym (ap₂ {C = Reply} (λ (c st : Bool). shape b c st (place_lost_pred P (blk, b)) (place_first_met (λ _. clean) (P.list (blk, b) ops))) w s)
-      ∙ alone_in b h H z
+      ∙ alone_in b H z
 
   all_clean : (t : List Thing) → place_first_met (λ _. clean) t ≡ clean
   unfolding is_clean clean
   all_clean [] = refl
   all_clean (y ∷ t) = all_clean t
 
-  pub alone_0 : (b h : ℕ) → HomeIs l blocks_in b m h → (h ≡ 0 → ⊥) → well? b (h - 1) ≡ true → place_stray_user P (blk, b) ≡ false → place_lost_pred P (blk, b) ≡ false → clean ≡ alone P (blk, b)
-  alone_0 b h H z w s p =
+  pub alone_0 : (b : ℕ) {h : Rust.Option ℕ} {r : ℕ} → HomeIs l blocks_in b m h → h ≡ Some r → well? b r ≡ true → place_stray_user P (blk, b) ≡ false → place_lost_pred P (blk, b) ≡ false → clean ≡ alone P (blk, b)
+  alone_0 b H z w s p =
       sym (all_clean (P.list (blk, b) ops))
       ∙ sym (ap (λ (lp : Bool). shape b true false lp (place_first_met (λ _. clean) (P.list (blk, b) ops))) p)
       ∙ sym (ap₂ {C = Reply} (λ (c st : Bool). shape b c st (place_lost_pred P (blk, b)) (place_first_met (λ _. clean) (P.list (blk, b) ops))) w s)
-      ∙ alone_in b h H z
+      ∙ alone_in b H z
 
   -- ---- a block with its operations
 

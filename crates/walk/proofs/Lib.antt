@@ -1,3 +1,4 @@
+pub mod Calling
 pub mod Nested
 pub mod DropLaws
 pub mod DropWalk
@@ -8,7 +9,7 @@ pub mod Search
 pub mod VerifyLaws
 pub mod VerdictEdit
 pub mod EraseLaws
-pub mod KindCodes
+pub mod Deep
 pub mod EraseWalk
 pub mod Strays
 pub mod Marks

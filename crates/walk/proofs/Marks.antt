@@ -4,7 +4,7 @@ use mathlib.Core.Logic.{by_cases, ⊎_elim}
 use mathlib.Core.List.{List, [], ◌∷◌, ◌++◌}
 use native.Mathlib.Decide.{ℕ_discrete}
 use native.Mathlib.Omega.{arith}
-use Prim.Native.Nat.{ℕ, zero, suc, ◌+◌, ◌-◌, ◌<◌, ◌≤◌}
+use Prim.Native.Nat.{ℕ, zero, suc, ◌+◌, ◌-◌, ◌<◌}
 use lib.ListN.{length, get_or, set, length-set}
 use lib.Seq.{get_or-set_same, get_or-set_other}
 use Rattle.seqs.specs.Seqs.{count}
@@ -16,11 +16,16 @@ use Rattle.places.proofs.Cut.{pick_0, pick_1, zero_or}
 use Rattle.places.proofs.Nest.{kind_code}
 use Rattle.places.proofs.DropTurn.{append_nil, gather_append}
 use Rattle.context.specs.declared.Layout.{Layout}
-use Rattle.context.specs.Layout.{kind_of, fam_of}
+use Rattle.std.specs.Prelude.{Option, None, Some, Result}
+use Rattle.edit.specs.Kinds.{code_of}
+use Rattle.edit.specs.declared.Nested.{Nested}
+use Rattle.edit.specs.declared.Nested.TheVariants.{Operation, Block, Region}
+use Rattle.edit.specs.declared.Refusal.{Refusal}
 use Rattle.context.specs.Memory.{state_of, FirstIs}
+use Rattle.context.specs.Nest.{nested_kind, inner_fam}
 use Rattle.context.specs.Reading.{NextIs}
 use Rattle.context.proofs.Cursor.{At, first_at, at_end, next_at}
-use Rattle.walk.specs.Erase.{inner_code}
+use Rattle.walk.specs.Erase.{inner_kind}
 use Rattle.walk.specs.Tests.{within, alone, DepthIs, marks_in, Given, Testable, Zeros, erase_code, Tested}
 use Rattle.walk.proofs.Strays.{nest_row, within_step, within_none, child_is}
 
@@ -41,8 +46,8 @@ given_append {a} {b} {v} {s} {s₁} {s₂} A B = record { long = B.long ∙ A.lo
         (zero_or j)
 
 -- an operation alone, and a thing of another kind
-pub given_op : (k p v : ℕ) (s : List ℕ) → k ≡ 0 → p < length s → Given (alone (kind_of k, p)) v s (set s p v)
-given_op k p v s e h = subst (λ (i : ℕ). Given (alone (kind_of i, p)) v s (set s p v)) (sym e) (record { long = length-set s p v; at = at })
+pub given_op : (p v : ℕ) (s : List ℕ) → p < length s → Given (alone (op, p)) v s (set s p v)
+given_op p v s h = record { long = length-set s p v; at = at }
   where
     at : (o : ℕ) → get_or (set s p v) o 0 ≡ pick (count Thing-dec (op, o) (alone (op, p))) (get_or s o 0) v
     at o =
@@ -50,70 +55,69 @@ given_op k p v s e h = subst (λ (i : ℕ). Given (alone (kind_of i, p)) v s (se
         (λ q. ap (λ (t : ℕ). get_or (set s p v) t 0) q ∙ get_or-set_same s p v 0 h ∙ sym (pick_1 (count Thing-dec (op, o) (alone (op, p))) (get_or s o 0) v (omega (arith, tick_yes (Thing-dec (op, o) (op, p)) (ap (λ (t : ℕ). (op, t)) q)))))
         (λ n. get_or-set_other s p o v 0 n ∙ sym (pick_0 (count Thing-dec (op, o) (alone (op, p))) (get_or s o 0) v (omega (arith, tick_no (Thing-dec (op, o) (op, p)) (λ w. n (ap (λ (t : Thing). t.1) w))))))
 
-pub given_other : (k p v : ℕ) (s : List ℕ) → k ≤ 2 → (k ≡ 0 → ⊥) → Given (alone (kind_of k, p)) v s s
+pub given_other : (k : Nested) (p v : ℕ) (s : List ℕ) → (k ≡ Operation → ⊥) → Given (alone (nested_kind k, p)) v s s
 unfolding kind_code
-given_other k p v s h n = record { long = refl; at = λ o. sym (pick_0 (count Thing-dec (op, o) (alone (kind_of k, p))) (get_or s o 0) v (omega (arith, tick_no (Thing-dec (op, o) (kind_of k, p)) (λ w. apart k h n (ap (λ (t : Thing). kind_code t.0) w))))) }
+given_other k p v s n = record { long = refl; at = λ o. sym (pick_0 (count Thing-dec (op, o) (alone (nested_kind k, p))) (get_or s o 0) v (omega (arith, tick_no (Thing-dec (op, o) (nested_kind k, p)) (λ w. apart k n (ap (λ (t : Thing). kind_code t.0) w))))) }
   where
-    apart : (k : ℕ) → k ≤ 2 → (k ≡ 0 → ⊥) → kind_code op ≡ kind_code (kind_of k) → ⊥
-    apart zero h n e = n refl
-    apart (suc zero) h n e = absurd (omega (arith, e))
-    apart (suc (suc zero)) h n e = absurd (omega (arith, e))
-    apart (suc (suc (suc k))) h n e = absurd (omega arith)
+    apart : (k : Nested) → (k ≡ Operation → ⊥) → kind_code op ≡ kind_code (nested_kind k) → ⊥
+    apart Operation n e = n refl
+    apart Block n e = absurd (omega (arith, e))
+    apart Region n e = absurd (omega (arith, e))
 
 pub given_nowhere : (P : State) (n : ℕ) (x : Thing) (v : ℕ) (s : List ℕ) → n ≡ 0 → Given (within P n x) v s s
 given_nowhere P n x v s e = subst (λ (zs : List Thing). Given zs v s s) (sym (within_none P n x e)) (given_none v s)
 
 -- ---- the loop over what lies directly in the thing, begun with the scratch s₀
 
-pub record Marking (l : Layout) (k p n v : ℕ) (m s₀ s : List ℕ) (c : ℕ) : Type 0 where
-  pub at : At l (fam_of (3 + k)) p m c
+pub record Marking (l : Layout) (k : Nested) (p n v : ℕ) (m s₀ s : List ℕ) (c : Option ℕ) : Type 0 where
+  pub at : At l (inner_fam k) p m c
   pub given : Given (gather (within (state_of l m) (n - 1)) at.done) v s₀ s
 
-pub marking : {l : Layout} {k p : ℕ} {m : List ℕ} (n v : ℕ) (s : List ℕ) (c : ℕ) → FirstIs l (fam_of (3 + k)) p m c → Marking l k p n v m s s c
+pub marking : {l : Layout} {k : Nested} {p : ℕ} {m : List ℕ} {c : Option ℕ} (n v : ℕ) (s : List ℕ) → FirstIs l (inner_fam k) p m c → Marking l k p n v m s s c
 unfolding first_at
-marking n v s c F = record { at = first_at c F; given = given_none v s }
+marking n v s F = record { at = first_at F; given = given_none v s }
 
-module _ {l : Layout} {k p n v : ℕ} {m t s₀ s : List ℕ} {c : ℕ} (T : Testable l k p m t) (M : Marking l k p n v m s₀ s c) where
+module _ {l : Layout} {k : Nested} {p n v : ℕ} {m t s₀ s : List ℕ} {c : Option ℕ} (T : Testable l k p m t) (M : Marking l k p n v m s₀ s c) where
   abbrev P : State
   P = state_of l m
 
   abbrev W : Thing → List Thing
   W = within P (n - 1)
 
-  pub marking_on : {s' : List ℕ} {j : ℕ} → (h : c ≡ 0 → ⊥) → j ≡ inner_code k → Given (W (kind_of j, c - 1)) v s s' → (d : ℕ) → NextIs l (fam_of (3 + k)) (c - 1) m d → Marking l k p n v m s₀ s' d
+  pub marking_on : {s' : List ℕ} {q : ℕ} {j : Nested} → (h : c ≡ Some q) → j ≡ inner_kind k → Given (W (nested_kind j, q)) v s s' → {d : Option ℕ} → NextIs l (inner_fam k) q m d → Marking l k p n v m s₀ s' d
   unfolding next_at
-  marking_on {s'} {j} h e G d N =
+  marking_on {s'} {q} {j} h e G N =
       record {
-        at = next_at T.store M.at h d N;
+        at = next_at T.store M.at h N;
         given = subst (λ (zs : List Thing). Given zs v s₀ s') more (given_append M.given G);
       }
     where
-      more : gather W M.at.done ++ W (kind_of j, c - 1) ≡ gather W (next_at T.store M.at h d N).done
+      more : gather W M.at.done ++ W (nested_kind j, q) ≡ gather W (next_at T.store M.at h N).done
       more =
-          ap {B = List Thing} (λ (t : Thing). gather W M.at.done ++ W t) (sym (child_is T M.at h e))
-          ∙ ap {B = List Thing} (λ (z : List Thing). gather W M.at.done ++ z) (sym (append_nil (W (node_in (fam_of (3 + k)), c - 1))))
-          ∙ sym (gather_append W M.at.done ((node_in (fam_of (3 + k)), c - 1) ∷ []))
+          ap {B = List Thing} (λ (t : Thing). gather W M.at.done ++ W t) (sym (child_is k q e))
+          ∙ ap {B = List Thing} (λ (z : List Thing). gather W M.at.done ++ z) (sym (append_nil (W (node_in (inner_fam k), q))))
+          ∙ sym (gather_append W M.at.done ((node_in (inner_fam k), q) ∷ []))
 
-  pub marked : {s₁ : List ℕ} → (n ≡ 0 → ⊥) → c ≡ 0 → Given (alone (kind_of k, p)) v s₁ s₀ → Given (within P n (kind_of k, p)) v s₁ s
-  marked {s₁} h z O = subst (λ (zs : List Thing). Given zs v s₁ s) (sym (within_step P n (kind_of k, p) h ∙ ap {B = List Thing} (λ (t : List Thing). (kind_of k, p) ∷ gather W t) all)) (given_append O M.given)
+  pub marked : {s₁ : List ℕ} → (n ≡ 0 → ⊥) → c ≡ None → Given (alone (nested_kind k, p)) v s₁ s₀ → Given (within P n (nested_kind k, p)) v s₁ s
+  marked {s₁} h z O = subst (λ (zs : List Thing). Given zs v s₁ s) (sym (within_step P n (nested_kind k, p) h ∙ ap {B = List Thing} (λ (t : List Thing). (nested_kind k, p) ∷ gather W t) all)) (given_append O M.given)
     where
-      all : kids P (kind_of k, p) ≡ M.at.done
-      all = sym (nest_row T.store k p T.kind) ∙ M.at.parts ∙ ap {B = List Thing} (λ (t : List Thing). M.at.done ++ t) (at_end T.store M.at z) ∙ append_nil M.at.done
+      all : kids P (nested_kind k, p) ≡ M.at.done
+      all = sym (nest_row T.store k p) ∙ M.at.parts ∙ ap {B = List Thing} (λ (t : List Thing). M.at.done ++ t) (at_end T.store M.at z) ∙ append_nil M.at.done
 
 -- ---- marked, tested, and clear again
 
-pub tested_is : {l : Layout} {k p n deep : ℕ} {m s s₁ s₂ : List ℕ} {r : ℕ} → Testable l k p m s → Zeros s → DepthIs l m deep → Given (within (state_of l m) deep (kind_of k, p)) 1 s s₁ → r ≡ erase_code (state_of l m) (marks_in s₁) n (kind_of k, p) → Given (within (state_of l m) deep (kind_of k, p)) 0 s₁ s₂ → Tested l (kind_of k, p) n m s s₂ r
+pub tested_is : {l : Layout} {k : Nested} {p n deep : ℕ} {m s s₁ s₂ : List ℕ} {r : Result (Unit {0}) Refusal} → Testable l k p m s → Zeros s → DepthIs l m deep → Given (within (state_of l m) deep (nested_kind k, p)) 1 s s₁ → code_of r ≡ erase_code (state_of l m) (marks_in s₁) n (nested_kind k, p) → Given (within (state_of l m) deep (nested_kind k, p)) 0 s₁ s₂ → Tested l (nested_kind k, p) n m s s₂ r
 unfolding pick
 tested_is {l} {k} {p} {n} {deep} {m} {s} {s₁} {s₂} T Z D A c B =
     record {
       marks = marks_in s₁;
-      right = λ o _. ap sgn (A.at o ∙ ap (λ (t : ℕ). pick (inside o) t 1) (Z o)) ∙ twice (inside o) ∙ ap (λ (zs : List Thing). sgn (count Thing-dec (op, o) zs)) (D.all (kind_of k, p));
+      right = λ o _. ap sgn (A.at o ∙ ap (λ (t : ℕ). pick (inside o) t 1) (Z o)) ∙ twice (inside o) ∙ ap (λ (zs : List Thing). sgn (count Thing-dec (op, o) zs)) (D.all (nested_kind k, p));
       code = c;
       scratch = record { long = omega (arith, T.long, A.long, B.long); zeros = λ o. B.at o ∙ ap (λ (t : ℕ). pick (inside o) t 0) (A.at o ∙ ap (λ (t : ℕ). pick (inside o) t 1) (Z o)) ∙ away (inside o) };
     }
   where
     inside : ℕ → ℕ
-    inside o = count Thing-dec (op, o) (within (state_of l m) deep (kind_of k, p))
+    inside o = count Thing-dec (op, o) (within (state_of l m) deep (nested_kind k, p))
 
     twice : (i : ℕ) → ◌≡◌ {A = ℕ} (sgn (pick i 0 1)) (sgn i)
     twice zero = refl

@@ -1,6 +1,6 @@
--- A loop over what lies directly in a thing, by the codes of places: what is left to do from a code on. And the operations inside, counted.
--- Assumes nothing.
+-- The operations inside a thing, counted; and what an option of a place holds. Assumes nothing.
 use mathlib.Core.Path.{◌≡◌, refl, sym, ap, ap₂, ◌∙◌}
+use Rattle.std.specs.Prelude.{Option, None, Some}
 use mathlib.Core.Logic.{ite}
 use mathlib.Core.List.{List, [], ◌∷◌}
 use native.Mathlib.Omega.{arith}
@@ -12,6 +12,14 @@ use Rattle.places.specs.Walk.{kids, walk}
 use Rattle.places.proofs.Climb.{ops_among}
 use Rattle.places.proofs.DropTurn.{ops_eq}
 use Rattle.walk.specs.Drop.{operations}
+
+-- ---- an option of a place
+
+pub same_place : {p q : ℕ} → ◌≡◌ {A = Option ℕ} (Some p) (Some q) → p ≡ q
+same_place e = cc
+
+pub none_some : {p : ℕ} → ◌≡◌ {A = Option ℕ} None (Some p) → ⊥
+none_some e = let z : ◌≡◌ {A = ℕ} 0 1 = cc in absurd (omega arith)
 
 -- ---- the operations inside
 

@@ -5,12 +5,15 @@ use mathlib.Core.Bool.{Bool, true, false, ◌||◌}
 use mathlib.Core.List.{List, [], ◌∷◌, ◌++◌, map}
 use native.Mathlib.Decide.{dec_lt}
 use native.Mathlib.Omega.{arith}
-use Prim.Native.Nat.{ℕ, zero, suc, ◌+◌, ◌-◌, ◌<◌, ◌≤◌}
+use Prim.Native.Nat.{ℕ, zero, suc, ◌+◌, ◌-◌, ◌<◌}
 use lib.Dec.{eqb}
 use lib.ListN.{length}
 use borrow.Author.Tests.{eqb-true, eqb-false}
 use Rattle.seqs.specs.Seqs.{sum}
 use mathlib.Core.Option.{Option, some}
+use Rattle.std.specs.Prelude as Rust
+use Rattle.std.specs.Prelude.{Some, Result, Ok, Err}
+use Rattle.edit.specs.declared.Nested.{Nested}
 use Rattle.places.specs.Store.{op, blk, reg, val, usg, slots, outer, value_uses, block_uses, results, arguments, use_sets, vals, Thing, Con, State, Live}
 use Rattle.places.specs.Parts.{node_in, rows_of}
 use Rattle.places.specs.Walk.{over, pick, sift, gather, kids, walk_by, place_values_at, def_sets, mark_of, stray_at, strays, strays_in}
@@ -19,16 +22,16 @@ use Rattle.places.proofs.Cut.{pick_0, pick_1}
 use Rattle.places.proofs.Nest.{kind_code}
 use Rattle.places.proofs.DropTurn.{list_none, values_op, values_blk}
 use Rattle.context.specs.declared.Layout.{Layout}
-use Rattle.context.specs.Layout.{kind_of, fam_of}
 use Rattle.context.specs.Memory.{con, state_of, SoundStore}
+use Rattle.context.specs.Nest.{nested_kind, inner_fam}
 use Rattle.context.specs.Reading.{list_of}
 use Rattle.context.proofs.Cursor.{row, At, here}
 use Rattle.context.proofs.Users.{con_block_uses}
-use Rattle.walk.specs.Erase.{inner_code}
+use Rattle.walk.specs.Erase.{inner_kind}
 use Rattle.walk.specs.Tests.{within, stray, stray_set, stray_value, stray_thing, DepthIs, Testable, erase_code}
 use Rattle.walk.proofs.DropWalk.{list_of_lem}
 use Rattle.walk.proofs.EraseLaws.{region_none}
-use Rattle.walk.proofs.EraseWalk.{inner≤, inner, inner_node}
+use Rattle.walk.proofs.EraseWalk.{inner, inner_node}
 
 pub con_value_uses : (l : Layout) (k : ℕ) → k < l.values → con l use_sets k ≡ (value_uses, (val, k))
 unfolding rows_of
@@ -46,22 +49,21 @@ con_arguments l b =
 
 -- ---- what lies directly in a thing of the kind k
 
-pub nest_row : {l : Layout} {m : List ℕ} (S : SoundStore l m) (k p : ℕ) → k ≤ 2 → row l (fam_of (3 + k)) p m ≡ kids (state_of l m) (kind_of k, p)
-nest_row {l} {m} S k p h = sym (list_of_lem (inner l k p h) m S.sound.linked)
+pub nest_row : {l : Layout} {m : List ℕ} (S : SoundStore l m) (k : Nested) (p : ℕ) → row l (inner_fam k) p m ≡ kids (state_of l m) (nested_kind k, p)
+nest_row {l} {m} S k p = sym (list_of_lem (inner l k p) m S.sound.linked)
+
+pub child_is : (k : Nested) (c : ℕ) {j : Nested} → j ≡ inner_kind k → ◌≡◌ {A = Thing} (node_in (inner_fam k), c) (nested_kind j, c)
+child_is k c e = ap {B = Thing} (λ t. (t, c)) (inner_node k ∙ ap nested_kind (sym e))
 
 -- the one that the loop has come to
-module _ {l : Layout} {m s : List ℕ} {k p c j : ℕ} (T : Testable l k p m s) (A : At l (fam_of (3 + k)) p m c) (h : c ≡ 0 → ⊥) (e : j ≡ inner_code k) where
-  pub child_is : ◌≡◌ {A = Thing} (node_in (fam_of (3 + k)), c - 1) (kind_of j, c - 1)
-  child_is = ap {B = Thing} (λ t. (t, c - 1)) (inner_node k T.kind ∙ ap kind_of (sym e))
-
-  pub child_testable : {s' : List ℕ} → length s' ≡ length s → Testable l j (c - 1) m s'
-  child_testable q =
-      record {
-        store = T.store;
-        kind = omega (arith, e, inner≤ k);
-        live = subst (λ (t : Thing). Live (state_of l m) t) child_is (here T.store A h).live;
-        long = omega (arith, q, T.long);
-      }
+pub child_testable : {l : Layout} {m s : List ℕ} {k : Nested} {p : ℕ} {c : Rust.Option ℕ} {q : ℕ} {j : Nested} (T : Testable l k p m s) (A : At l (inner_fam k) p m c) (h : c ≡ Some q) → j ≡ inner_kind k → {s' : List ℕ}
+    → length s' ≡ length s → Testable l j q m s'
+child_testable {l} {m} {s} {k} {p} {c} {q} {j} T A h i e =
+    record {
+      store = T.store;
+      live = subst (λ (t : Thing). Live (state_of l m) t) (child_is k q i) (here T.store A h).live;
+      long = omega (arith, e, T.long);
+    }
 
 -- x first, then what lies in it
 pub within_step : (P : State) (n : ℕ) (x : Thing) → (n ≡ 0 → ⊥) → within P n x ≡ x ∷ gather (within P (n - 1)) (kids P x)
@@ -99,22 +101,22 @@ module _ {A : Type 0} (p : A → Bool) where
 abbrev pub in_test : State → (Thing → Bool) → ℕ → Thing → Bool
 in_test P p n y = any p (within P n y)
 
-module _ {l : Layout} {m : List ℕ} (S : SoundStore l m) (p : Thing → Bool) (k q n : ℕ) (k≤ : k ≤ 2) (h : n ≡ 0 → ⊥) where
+module _ {l : Layout} {m : List ℕ} (S : SoundStore l m) (p : Thing → Bool) (k : Nested) (q n : ℕ) (h : n ≡ 0 → ⊥) where
   abbrev P : State
   P = state_of l m
 
   abbrev x : Thing
-  x = (kind_of k, q)
+  x = (nested_kind k, q)
 
-  whole : any p (within P n x) ≡ (p x || any (in_test P p (n - 1)) (row l (fam_of (3 + k)) q m))
+  whole : any p (within P n x) ≡ (p x || any (in_test P p (n - 1)) (row l (inner_fam k) q m))
   unfolding any
-  whole = ap (any p) (within_step P n x h) ∙ ap (λ r. p x || r) (any_gather p (within P (n - 1)) (kids P x) ∙ ap (any (in_test P p (n - 1))) (sym (nest_row S k q k≤)))
+  whole = ap (any p) (within_step P n x h) ∙ ap (λ r. p x || r) (any_gather p (within P (n - 1)) (kids P x) ∙ ap (any (in_test P p (n - 1))) (sym (nest_row S k q)))
 
   pub test_own : p x ≡ true → true ≡ any p (within P n x)
-  test_own e = sym (whole ∙ ap (λ r. r || any (in_test P p (n - 1)) (row l (fam_of (3 + k)) q m)) e)
+  test_own e = sym (whole ∙ ap (λ r. r || any (in_test P p (n - 1)) (row l (inner_fam k) q m)) e)
 
-  pub test_inside : (r : Bool) → p x ≡ false → r ≡ any (in_test P p (n - 1)) (row l (fam_of (3 + k)) q m) → r ≡ any p (within P n x)
-  test_inside r e g = g ∙ sym (whole ∙ ap (λ r. r || any (in_test P p (n - 1)) (row l (fam_of (3 + k)) q m)) e)
+  pub test_inside : (r : Bool) → p x ≡ false → r ≡ any (in_test P p (n - 1)) (row l (inner_fam k) q m) → r ≡ any p (within P n x)
+  test_inside r e g = g ∙ sym (whole ∙ ap (λ r. r || any (in_test P p (n - 1)) (row l (inner_fam k) q m)) e)
 
 pub test_none : (P : State) (p : Thing → Bool) (n : ℕ) (x : Thing) → n ≡ 0 → false ≡ any p (within P n x)
 unfolding any
@@ -125,10 +127,6 @@ test_none P p n x e = ap (any p) (sym (within_none P n x e))
 module _ {l : Layout} {m : List ℕ} (S : SoundStore l m) (mk : ℕ → ℕ) where
   abbrev Q : State
   Q = state_of l m
-
-  pub set_is : (r : Bool) (d : ℕ) → r ≡ any (stray Q mk) (row l use_sets d m) → r ≡ stray_set Q mk (con l use_sets d)
-  unfolding stray_set
-  set_is r d e = e
 
   pub value_set : (v : ℕ) → v < l.values → stray_set Q mk (con l use_sets v) ≡ stray_value Q mk (val, v)
   value_set v h = ap (stray_set Q mk) (con_value_uses l v h)
@@ -142,33 +140,21 @@ module _ {l : Layout} {m : List ℕ} (S : SoundStore l m) (mk : ℕ → ℕ) whe
   unfolding stray_set any
   no_set z e = ap (any (stray Q mk)) e
 
-  op_is : (o : ℕ) → o < l.ops → any (stray_value Q mk) (list_of l m (con l vals o)) ≡ stray_thing Q mk (op, o)
+  pub of_op : (o : ℕ) → o < l.ops → any (stray_value Q mk) (list_of l m (con l vals o)) ≡ stray_thing Q mk (op, o)
   unfolding kind_code
-  op_is o h = sym (
+  of_op o h = sym (
       parts (op, o) (Q.list (op, o) results) (values_op S.sound.linked o)
       ∙ ap (λ r. r || any (stray_value Q mk) (Q.list (op, o) results)) (no_set (op, o) (list_none S.sound.linked (op, o) block_uses (λ g. absurd (omega arith))))
       ∙ ap (λ (c : Con). any (stray_value Q mk) (list_of l m c)) (sym (con_results l o h)))
 
-  pub of_op : (k o : ℕ) → k ≡ 0 → o < l.ops → any (stray_value Q mk) (list_of l m (con l vals o)) ≡ stray_thing Q mk (kind_of k, o)
-  of_op k o e h = op_is o h ∙ ap (λ (i : ℕ). stray_thing Q mk (kind_of i, o)) (sym e)
-
-  block_is : (b : ℕ) → (stray_set Q mk (con l use_sets (l.values + b)) || any (stray_value Q mk) (list_of l m (con l vals (l.ops + b)))) ≡ stray_thing Q mk (blk, b)
-  block_is b = sym (
+  pub of_block : (b : ℕ) → (stray_set Q mk (con l use_sets (l.values + b)) || any (stray_value Q mk) (list_of l m (con l vals (l.ops + b)))) ≡ stray_thing Q mk (blk, b)
+  of_block b = sym (
       parts (blk, b) (Q.list (blk, b) arguments) (values_blk S.sound.linked b)
       ∙ ap₂ {C = Bool} (λ (c d : Con). stray_set Q mk c || any (stray_value Q mk) (list_of l m d)) (sym (con_block_uses l b)) (sym (con_arguments l b)))
 
-  pub of_block : (k b : ℕ) (g : Bool) → k ≡ 1 → g ≡ stray_set Q mk (con l use_sets (l.values + b)) → g ≡ true → true ≡ stray_thing Q mk (kind_of k, b)
-  of_block k b g e q t = sym (ap (λ a. a || any (stray_value Q mk) (list_of l m (con l vals (l.ops + b)))) (sym q ∙ t)) ∙ block_is b ∙ ap (λ (i : ℕ). stray_thing Q mk (kind_of i, b)) (sym e)
-
-  pub of_arguments : (k b : ℕ) (g r : Bool) → k ≡ 1 → g ≡ stray_set Q mk (con l use_sets (l.values + b)) → g ≡ false → r ≡ any (stray_value Q mk) (list_of l m (con l vals (l.ops + b))) → r ≡ stray_thing Q mk (kind_of k, b)
-  of_arguments k b g r e q t a = a ∙ sym (ap (λ a. a || any (stray_value Q mk) (list_of l m (con l vals (l.ops + b)))) (sym q ∙ t)) ∙ block_is b ∙ ap (λ (i : ℕ). stray_thing Q mk (kind_of i, b)) (sym e)
-
-  region_is : (r : ℕ) → false ≡ stray_thing Q mk (reg, r)
+  pub of_region : (r : ℕ) → false ≡ stray_thing Q mk (reg, r)
   unfolding any kind_code
-  region_is r = sym (parts (reg, r) [] (region_none S.sound r) ∙ ap (λ a. a || false) (no_set (reg, r) (list_none S.sound.linked (reg, r) block_uses (λ g. absurd (omega arith)))))
-
-  pub of_region : (k r : ℕ) → k ≡ 2 → false ≡ stray_thing Q mk (kind_of k, r)
-  of_region k r e = region_is r ∙ ap (λ (i : ℕ). stray_thing Q mk (kind_of i, r)) (sym e)
+  of_region r = sym (parts (reg, r) [] (region_none S.sound r) ∙ ap (λ a. a || false) (no_set (reg, r) (list_none S.sound.linked (reg, r) block_uses (λ g. absurd (omega arith)))))
 
 pub stray_is : (P : State) (mk : ℕ → ℕ) (u o : ℕ) → outer (P.own (usg, u) slots) ≡ some (op, o) → eqb (mk o) 0 ≡ stray P mk (usg, u)
 unfolding stray

@@ -2,7 +2,7 @@
 use mathlib.Core.Path.{◌≡◌, refl, sym, ap, ap₂, ◌∙◌, subst}
 use mathlib.Core.List.{List, []}
 use native.Mathlib.Omega.{arith}
-use Prim.Native.Nat.{ℕ, zero, suc, ◌+◌, ◌≤◌}
+use Prim.Native.Nat.{ℕ, ◌+◌, ◌≤◌}
 use lib.ListN.{length}
 use Rattle.places.specs.Store.{op, val, Thing, State, Live, Sound}
 use Rattle.places.specs.View.{Rec, num, view}
@@ -11,9 +11,10 @@ use Rattle.places.specs.Alias.{RThing}
 use Rattle.places.specs.Walk.{among}
 use Rattle.rules.specs.Table.{Table, keep_keys, number}
 use Rattle.edit.specs.Record.{Edit, verdict}
-use Rattle.edit.specs.Answer.{Reply, refuse, found, numbers_of}
-use Rattle.edit.specs.declared.Answer.{Answer}
-use Rattle.edit.specs.declared.Answer.TheVariants.{Accepted, Refused}
+use Rattle.std.specs.Prelude.{Ok, Err}
+use Rattle.edit.specs.Answer.{Answer, Reply, refuse, found, numbers_of}
+use Rattle.edit.specs.Kinds.{thing_of}
+use Rattle.edit.specs.declared.Nested.{Nested}
 use Rattle.rules.specs.History.{Five, History, zeros, plus, bear, births, carry_out, remember, live_operation, live_value}
 use Rattle.rules.specs.Orders.{order, reorder}
 use Rattle.rules.specs.State.{accept, new_flags, new_types}
@@ -27,14 +28,12 @@ use Rattle.places.proofs.RuleTables.{flags_cut, types_cut}
 use Rattle.places.proofs.VerdictWalk.{verdict_at}
 use Rattle.places.proofs.TopRefusals.{verdict_refusal, verdict_answer}
 use Rattle.context.specs.declared.Layout.{Layout}
-use Rattle.context.specs.Layout.{kind_of}
-use Rattle.context.specs.Memory.{state_of, SoundStore, Finds}
+use Rattle.context.specs.Memory.{state_of, SoundStore}
+use Rattle.context.specs.Nest.{nested_kind}
 use Rattle.context.specs.Performed.{Performed}
 use Rattle.context.proofs.Performing.{refuses, accepts}
-use Rattle.bits.specs.declared.Found.{Found}
-use Rattle.bits.specs.declared.Found.TheVariants.{At}
-use Rattle.walk.proofs.Asked.{passes, live_at}
-use Rattle.walk.proofs.EraseWalk.{code≤}
+use Rattle.walk.proofs.Asked.{passes, thing_is}
+use Rattle.walk.proofs.EraseWalk.{nested≤}
 
 plus_zeros : (f : Five) → plus f zeros ≡ f
 unfolding plus zeros
@@ -96,25 +95,18 @@ module _ {l : Layout} {m : List ℕ} (S : SoundStore l m) where
     unfolding meaning
     replied = verdict_answer S.sound _ (λ _. 0) x lx kx
 
-    accepted : (a b : ℕ) → found a b ≡ verdict_at P (length (P.tab op).order) x → Performed l v m m (Accepted a b)
+    accepted : (a b : ℕ) → found a b ≡ verdict_at P (length (P.tab op).order) x → Performed l v m m (Ok (a, b))
     unfolding found
     accepted a b e = accepts v S (asked ∙ ap (λ (q : Reply). q.refusal) (sym e)) after refl (settles_same (λ k. refl)) a b (replied _ ∙ sym e)
 
-    judged : (r : Answer) → numbers_of r ≡ verdict_at P (length (P.tab op).order) x → Performed l v m m r
+    -- what was judged, as the answer
+    judged : (a : Answer) → numbers_of a ≡ verdict_at P (length (P.tab op).order) x → Performed l v m m a
     unfolding numbers_of found refuse
-    judged (Accepted a b) e = accepted a b e
-    judged (Refused zero) e = let c : Performed l v m m (Accepted 0 0) = accepted 0 0 e in record { sound = c.sound; reply = c.reply; state = c.state; places = c.places; kept = c.kept; rest = c.rest }
-    judged (Refused (suc n)) e = refuses v S (suc n) (asked ∙ ap (λ (q : Reply). q.refusal) (sym e)) (λ q. omega (arith, q))
+    judged (Ok (a, b)) e = accepted a b e
+    judged (Err r) e = refuses v S r (asked ∙ ap (λ (q : Reply). q.refusal) (sym e))
 
-    did_judge : (n : ℕ) (r : Answer) → num P x ≡ n → numbers_of r ≡ verdict_at P (length (P.tab op).order) x → Performed l (verdict (thing_named x.0 n)) m m r
-    did_judge n r q e = subst (λ (i : ℕ). Performed l (verdict (thing_named x.0 i)) m m r) q (judged r e)
-
-  -- the thing that the look-up found, where its code is j
-  module _ (k n p j : ℕ) (h : k ≤ 2) {a : Found} (F : Finds P (kind_of k) n a) (e : a ≡ At p) (is-j : k ≡ j) where
-    pub may_judge : SoundStore l m × Live P (kind_of j, p)
-    may_judge = (S, subst (λ (i : ℕ). Live P (kind_of i, p)) is-j (live_at P (kind_of k) n p F e).0)
-
-    pub judged_by : (r : Answer) → numbers_of r ≡ verdict_at P (length (P.tab op).order) (kind_of j, p) → Performed l (verdict (thing_named (kind_of k) n)) m m r
-    judged_by r w =
-        did_judge (kind_of k, p) (code≤ k h) (live_at P (kind_of k) n p F e).0 n r (live_at P (kind_of k) n p F e).1
-        (subst (λ (i : ℕ). numbers_of r ≡ verdict_at P (length (P.tab op).order) (kind_of i, p)) (sym is-j) w)
+  -- the thing that the look-up found
+  pub did_judge : (k : Nested) (n p : ℕ) → Live P (nested_kind k, p) × (num P (nested_kind k, p) ≡ n) → (a : Answer) → numbers_of a ≡ verdict_at P (length (P.tab op).order) (nested_kind k, p) → Performed l (verdict (thing_of k n)) m m a
+  did_judge k n p F a e =
+      subst (λ (t : RThing). Performed l (verdict t) m m a) (ap (thing_named (nested_kind k)) F.1 ∙ sym (thing_is k n))
+      (judged (nested_kind k, p) (nested≤ k) F.0 a e)

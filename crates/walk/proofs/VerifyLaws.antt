@@ -1,36 +1,35 @@
 -- The three functions that judge the nest: their loops, and the edits 42 to 44. Assumes nothing.
 use mathlib.Core.Path.{◌≡◌, sym, ap, ◌∙◌}
-use mathlib.Core.Bool.{true, false}
 use mathlib.Core.List.{List, ◌∷◌, ◌++◌}
 use native.Mathlib.Omega.{arith}
-use Prim.Native.Nat.{ℕ, ◌-◌, ◌<◌}
+use Prim.Native.Nat.{ℕ, ◌<◌}
+use Rattle.std.specs.Prelude.{Option, None, Some, Result, Ok, Err}
 use Rattle.seqs.specs.Seqs.{count}
-use Rattle.places.specs.Store.{op, blk, regions, Fam, regs, ops_in, blocks_in, Thing, Thing-dec, State, Live}
+use Rattle.places.specs.Store.{op, regions, Fam, regs, ops_in, blocks_in, Thing, Thing-dec, State, Live}
 use Rattle.places.specs.Parts.{node_in}
 use Rattle.places.specs.Verdict.{place_first_met, place_block_verdict, place_region_verdict, place_too_early}
 use Rattle.rules.specs.Verdict.{is_clean}
-use Rattle.edit.specs.Answer.{Reply, numbers_of}
-use Rattle.edit.specs.declared.Answer.{Answer}
-use Rattle.edit.specs.declared.Answer.TheVariants.{Accepted}
+use Rattle.edit.specs.Answer.{Reply}
 use Rattle.seqs.proofs.Base.{count_append, in_head}
 use Rattle.places.proofs.Runs.{measure, falls}
 use Rattle.context.specs.declared.Layout.{Layout}
 use Rattle.context.specs.Memory.{state_of, SoundStore}
-use Rattle.walk.specs.Judge.{on_op, alone, OpJudged, BlockJudged, RegionJudged}
+use Rattle.walk.specs.declared.Fault.{Fault}
+use Rattle.walk.specs.Judge.{fault_reply, reply_of, on_op, BlockAlone, OpJudged, BlockJudged, RegionJudged}
 use Rattle.walk.proofs.DropWalk.{Nests, list_of_lem}
 use Rattle.context.proofs.Cursor.{At, here}
 use Rattle.walk.proofs.JudgeLaws.{block_not, block_then, op_not, op_then}
-use Rattle.walk.proofs.Search.{Meeting, met, none_met, nothing, regions_row, ops_row, region_is}
+use Rattle.walk.proofs.Search.{faulty, clean_is, Meeting, met, none_met, regions_row, ops_row, region_is}
 
 -- what lies in x is smaller than x
-pub kid_falls : {l : Layout} {f : Fam} {x : Thing} → Nests l f x → {m : List ℕ} {k : ℕ} (S : SoundStore l m) → At l f x.1 m k → (k ≡ 0 → ⊥) → measure (state_of l m) (node_in f, k - 1) < measure (state_of l m) x
-kid_falls {l} {f} {x} T {m} {k} S A h =
-    falls S.sound.linked x (node_in f, k - 1)
+pub kid_falls : {l : Layout} {f : Fam} {x : Thing} → Nests l f x → {m : List ℕ} {k : Option ℕ} {p : ℕ} (S : SoundStore l m) → At l f x.1 m k → k ≡ Some p → measure (state_of l m) (node_in f, p) < measure (state_of l m) x
+kid_falls {l} {f} {x} T {m} {k} {p} S A h =
+    falls S.sound.linked x (node_in f, p)
     (omega (
       arith,
-      ap (count Thing-dec (node_in f, k - 1)) (list_of_lem T m S.sound.linked ∙ A.parts ∙ ap {B = List Thing} (λ (t : List Thing). A.done ++ t) (here S A h).is),
-      count_append Thing-dec (node_in f, k - 1) A.done ((node_in f, k - 1) ∷ (here S A h).later),
-      in_head Thing-dec (node_in f, k - 1) (here S A h).later,
+      ap (count Thing-dec (node_in f, p)) (list_of_lem T m S.sound.linked ∙ A.parts ∙ ap {B = List Thing} (λ (t : List Thing). A.done ++ t) (here S A h).is),
+      count_append Thing-dec (node_in f, p) A.done ((node_in f, p) ∷ (here S A h).later),
+      in_head Thing-dec (node_in f, p) (here S A h).later,
     ))
 
 module _ {l : Layout} {m : List ℕ} (S : SoundStore l m) where
@@ -45,29 +44,29 @@ module _ {l : Layout} {m : List ℕ} (S : SoundStore l m) where
 
   -- ---- an operation
 
-  pub op_hit : (o : ℕ) {k : ℕ} (r : Answer) → Live P (op, o) → Meeting l regs o m k verdict_on_region → (k ≡ 0 → ⊥) → RegionJudged l (k - 1) m r → is_clean (numbers_of r) ≡ false → OpJudged l o m r
-  op_hit o {k} r v G h J n =
-      let e : numbers_of r ≡ place_first_met verdict_on_region (P.list (op, o) regions) = J.is ∙ met S G h (ap is_clean (sym J.is) ∙ n) ∙ ap (place_first_met verdict_on_region) (regions_row l m o) in
-      record { is = e ∙ op_not S o v (ap is_clean (sym e) ∙ n) }
+  pub op_hit : (o : ℕ) {k : Option ℕ} {p : ℕ} {e : Fault} → Live P (op, o) → Meeting l regs o m k verdict_on_region → k ≡ Some p → RegionJudged l p m (Err e) → OpJudged l o m (Err e)
+  op_hit o {k} {p} {e} v G h J =
+      let q : fault_reply e ≡ place_first_met verdict_on_region (P.list (op, o) regions) = met S G e h J.is ∙ ap (place_first_met verdict_on_region) (regions_row l m o) in
+      record { is = q ∙ op_not S o v (ap is_clean (sym q) ∙ faulty e) }
 
-  pub op_end : (o : ℕ) {k : ℕ} (r : Answer) → Live P (op, o) → Meeting l regs o m k verdict_on_region → k ≡ 0 → numbers_of r ≡ place_too_early P (op, o) → OpJudged l o m r
+  pub op_end : (o : ℕ) {k : Option ℕ} (r : Result (Unit {0}) Fault) → Live P (op, o) → Meeting l regs o m k verdict_on_region → k ≡ None → reply_of r ≡ place_too_early P (op, o) → OpJudged l o m r
   op_end o r v G z e = record { is = e ∙ op_then S o v (none_met S G z ∙ ap (place_first_met verdict_on_region) (regions_row l m o)) }
 
   -- ---- a region
 
-  pub region_hit : (p : ℕ) {k : ℕ} (r : Answer) → Meeting l blocks_in p m k verdict_on_block → (k ≡ 0 → ⊥) → BlockJudged l (k - 1) m r → is_clean (numbers_of r) ≡ false → RegionJudged l p m r
-  region_hit p r G h J n = record { is = J.is ∙ met S G h (ap is_clean (sym J.is) ∙ n) ∙ region_is l m p }
+  pub region_hit : (r : ℕ) {k : Option ℕ} {p : ℕ} {e : Fault} → Meeting l blocks_in r m k verdict_on_block → k ≡ Some p → BlockJudged l p m (Err e) → RegionJudged l r m (Err e)
+  region_hit r {k} {p} {e} G h J = record { is = met S G e h J.is ∙ region_is l m r }
 
-  pub region_end : (p : ℕ) {k : ℕ} → Meeting l blocks_in p m k verdict_on_block → k ≡ 0 → RegionJudged l p m (Accepted 0 0)
-  region_end p G z = record { is = sym nothing ∙ none_met S G z ∙ region_is l m p }
+  pub region_end : (r : ℕ) {k : Option ℕ} → Meeting l blocks_in r m k verdict_on_block → k ≡ None → RegionJudged l r m (Ok tt)
+  region_end r G z = record { is = none_met S G z ∙ region_is l m r }
 
   -- ---- a block
 
-  pub block_self : (b : ℕ) (r : Answer) → numbers_of r ≡ alone P (blk, b) → is_clean (numbers_of r) ≡ false → BlockJudged l b m r
-  block_self b r e n = record { is = e ∙ block_not S (on_op P) b (ap is_clean (sym e) ∙ n) }
+  pub block_self : (b : ℕ) {e : Fault} → BlockAlone l b m (Err e) → BlockJudged l b m (Err e)
+  block_self b {e} J = record { is = J.is ∙ block_not S (on_op P) b (ap is_clean (sym J.is) ∙ faulty e) }
 
-  pub block_hit : (b : ℕ) {k : ℕ} (a r : Answer) → numbers_of a ≡ alone P (blk, b) → is_clean (numbers_of a) ≡ true → Meeting l ops_in b m k (on_op P) → (k ≡ 0 → ⊥) → OpJudged l (k - 1) m r → is_clean (numbers_of r) ≡ false → BlockJudged l b m r
-  block_hit b a r e y G h J n = record { is = J.is ∙ met S G h (ap is_clean (sym J.is) ∙ n) ∙ ap (place_first_met (on_op P)) (ops_row l m b) ∙ block_then S (on_op P) b (ap is_clean (sym e) ∙ y) }
+  pub block_hit : (b : ℕ) {k : Option ℕ} {p : ℕ} {e : Fault} → BlockAlone l b m (Ok tt) → Meeting l ops_in b m k (on_op P) → k ≡ Some p → OpJudged l p m (Err e) → BlockJudged l b m (Err e)
+  block_hit b {k} {p} {e} A G h J = record { is = met S G e h J.is ∙ ap (place_first_met (on_op P)) (ops_row l m b) ∙ block_then S (on_op P) b (ap is_clean (sym A.is) ∙ clean_is) }
 
-  pub block_end : (b : ℕ) {k : ℕ} (a : Answer) → numbers_of a ≡ alone P (blk, b) → is_clean (numbers_of a) ≡ true → Meeting l ops_in b m k (on_op P) → k ≡ 0 → BlockJudged l b m (Accepted 0 0)
-  block_end b a e y G z = record { is = sym nothing ∙ none_met S G z ∙ ap (place_first_met (on_op P)) (ops_row l m b) ∙ block_then S (on_op P) b (ap is_clean (sym e) ∙ y) }
+  pub block_end : (b : ℕ) {k : Option ℕ} → BlockAlone l b m (Ok tt) → Meeting l ops_in b m k (on_op P) → k ≡ None → BlockJudged l b m (Ok tt)
+  block_end b A G z = record { is = none_met S G z ∙ ap (place_first_met (on_op P)) (ops_row l m b) ∙ block_then S (on_op P) b (ap is_clean (sym A.is) ∙ clean_is) }

@@ -1,12 +1,15 @@
 -- Erasing, once nothing inside is used: what the three functions over the nest ask, and what they make of the store.
 -- Assumes nothing: these are definitions.
-use Rattle.std.specs.Prelude.{◌≡◌, List, [], ℕ, zero, suc, ◌<◌, length}
+use Rattle.std.specs.Prelude.{◌≡◌, ◌≢◌, List, [], ℕ, ◌<◌, length, Ok, Err}
 use Rattle.seqs.specs.Seqs.{In}
 use Rattle.places.specs.Store.{op, Role, vals, Thing, Thing-dec, Con, Con-dec, State, Live}
 use Rattle.places.specs.Walk.{sgn, cut_all, walk, place_uses_at, place_values_at, def_sets, drop_list, dropped, innards}
-use Rattle.edit.specs.Record.{Edit, erase_operation, erase_block}
-use Rattle.edit.specs.declared.Answer.{Answer}
-use Rattle.edit.specs.declared.Answer.TheVariants.{Accepted, Refused}
+use Rattle.edit.specs.Answer.{Answer}
+use Rattle.edit.specs.Kinds.{number_of}
+use Rattle.edit.specs.Record.{Member, operation, block, Edit, erase_operation, erase_block}
+use Rattle.edit.specs.declared.Nested.{Nested}
+use Rattle.edit.specs.declared.Nested.TheVariants.{Operation, Block, Region}
+use Rattle.edit.specs.declared.Refusal.{Refusal}
 use Rattle.context.specs.declared.Layout.{Layout}
 use Rattle.context.specs.Layout.{nc_of}
 use Rattle.context.specs.Memory.{part, con, state_of, SoundStore}
@@ -49,16 +52,16 @@ pub record OwnEnded (l : Layout) (x : Thing) (m m' : List ℕ) : Type 0 where
   pub rest : part l m' 14 ≡ part l m 14
   pub state : state_of l m' ≡ cut_all (place_values_at (state_of l m) x) (state_of l m)
 
--- the code of the kind of what lies in a thing of the kind k
-abbrev pub inner_code : ℕ → ℕ
-inner_code zero = 2
-inner_code (suc zero) = 0
-inner_code (suc (suc k)) = 1
+-- the kind of what lies directly in a thing
+abbrev pub inner_kind : Nested → Nested
+inner_kind Operation = Region
+inner_kind Block = Operation
+inner_kind Region = Block
 
--- the edit that erases an operation or a block, by the code of the kind
-abbrev pub erase_by : ℕ → ℕ → Edit
-erase_by zero n = erase_operation n
-erase_by (suc k) n = erase_block n
+-- the edit that erases an operation or a block
+abbrev pub erase_by : Member → ℕ → Edit
+erase_by operation n = erase_operation n
+erase_by block n = erase_block n
 
 -- ---- the edit, once the thing is found
 
@@ -66,11 +69,11 @@ pub record EraseDone (l : Layout) (x : Thing) (m m' : List ℕ) (r : Answer) : T
   pub store : SoundStore l m'
   pub rest : part l m' 14 ≡ part l m 14
   pub state : state_of l m' ≡ cut_all (innards (state_of l m) x) (dropped (state_of l m) x)
-  pub reply : r ≡ Accepted (operations (state_of l m) x) (length (drop_list (state_of l m) x))
+  pub reply : r ≡ Ok (operations (state_of l m) x, length (drop_list (state_of l m) x))
 
 -- refused by 13 or 14, or done; n is the depth of 13
 pub record EraseAnswer (l : Layout) (x : Thing) (n : ℕ) (m m' : List ℕ) (r : Answer) : Type 0 where
   pub marks : ℕ → ℕ
   pub right : (o : ℕ) → Live (state_of l m) (op, o) → sgn (marks o) ≡ sgn (count Thing-dec (op, o) (walk (state_of l m) x))
-  pub kept : (c : ℕ) → erase_code (state_of l m) marks n x ≡ suc c → (m' ≡ m) × (r ≡ Refused (suc c))
+  pub kept : erase_code (state_of l m) marks n x ≢ 0 → (m' ≡ m) × (e : Refusal) × (r ≡ Err e) × (number_of e ≡ erase_code (state_of l m) marks n x)
   pub done : erase_code (state_of l m) marks n x ≡ 0 → EraseDone l x m m' r

@@ -1,13 +1,30 @@
 -- The tests before erasing: what lies in a thing, by a depth; uses from outside of what lies there; marks in the scratch.
 -- Assumes nothing: these are definitions.
-use Rattle.std.specs.Prelude.{◌≡◌, Bool, List, [], ◌∷◌, ℕ, ◌≤◌, eqb, length, get_or}
+use Rattle.std.specs.Prelude.{◌≡◌, Bool, List, [], ◌∷◌, ℕ, ◌≤◌, eqb, length, get_or, Result}
 use Rattle.seqs.specs.Seqs.{count, sum}
-use Rattle.places.specs.Store.{op, value_uses, Thing, Thing-dec, Con, State, Live}
+use Rattle.edit.specs.Kinds.{code_of}
+use Rattle.edit.specs.declared.Nested.{Nested}
+use Rattle.edit.specs.declared.Refusal.{Refusal}
+use Rattle.places.specs.Store.{op, value_uses, Fam, Thing, Thing-dec, Con, State, Live}
+use Rattle.places.specs.Parts.{node_in}
 use Rattle.places.specs.Walk.{pick, sgn, kids, walk_by, walk, def_sets, mark_of, strays, strays_in}
 use Rattle.rules.specs.Table.{any}
 use Rattle.context.specs.declared.Layout.{Layout}
-use Rattle.context.specs.Layout.{kind_of}
-use Rattle.context.specs.Memory.{state_of, SoundStore}
+use Rattle.context.specs.Memory.{con, state_of, SoundStore}
+use Rattle.context.specs.Nest.{nested_kind}
+use Rattle.context.specs.Reading.{list_of}
+
+-- ---- a test of the places of a list
+
+-- it holds at each live place of the family
+abbrev pub AtLive : Layout → Fam → List ℕ → (ℕ → Type 0) → Type 0
+AtLive l f m H = (p : ℕ) → Live (state_of l m) (node_in f, p) → H p
+
+-- r is whether a place of the list k passes the test, whatever the test says of a thing
+abbrev pub AnyOf : Layout → Fam → ℕ → List ℕ → (ℕ → Bool → Type 0) → Bool → Type 0
+AnyOf l f k m Says r = (t : Thing → Bool) → AtLive l f m (λ p. (b : Bool) → Says p b → b ≡ t (node_in f, p)) → r ≡ any t (list_of l m (con l f k))
+
+-- ---- what lies in a thing
 
 -- what lies in x, itself included, by fewer than n steps
 unfoldable pub within : State → ℕ → Thing → List Thing
@@ -44,10 +61,9 @@ pub record Given (zs : List Thing) (v : ℕ) (s s' : List ℕ) : Type 0 where
   pub at : (o : ℕ) → get_or s' o 0 ≡ pick (count Thing-dec (op, o) zs) (get_or s o 0) v
 
 -- a thing of the store, and a scratch with a word for each operation
-pub record Testable (l : Layout) (k p : ℕ) (m s : List ℕ) : Type 0 where
+pub record Testable (l : Layout) (k : Nested) (p : ℕ) (m s : List ℕ) : Type 0 where
   pub store : SoundStore l m
-  pub kind : k ≤ 2
-  pub live : Live (state_of l m) (kind_of k, p)
+  pub live : Live (state_of l m) (nested_kind k, p)
   pub long : l.ops ≤ length s
 
 -- all words are 0
@@ -64,8 +80,8 @@ abbrev pub erase_code : State → (ℕ → ℕ) → ℕ → Thing → ℕ
 erase_code P mk n x = pick (sum (strays P mk) (within P n x)) (pick (strays_in P mk x) 0 14) 13
 
 -- what the tests found; the scratch is clear again
-pub record Tested (l : Layout) (x : Thing) (n : ℕ) (m s s' : List ℕ) (r : ℕ) : Type 0 where
+pub record Tested (l : Layout) (x : Thing) (n : ℕ) (m s s' : List ℕ) (r : Result (Unit {0}) Refusal) : Type 0 where
   pub marks : ℕ → ℕ
   pub right : (o : ℕ) → Live (state_of l m) (op, o) → sgn (marks o) ≡ sgn (count Thing-dec (op, o) (walk (state_of l m) x))
-  pub code : r ≡ erase_code (state_of l m) marks n x
+  pub code : code_of r ≡ erase_code (state_of l m) marks n x
   pub scratch : Scratch l s'

@@ -1,12 +1,8 @@
--- The loop's invariant: the bits of the places so far agree with the stamps. Assumes nothing.
-use mathlib.Core.Path.{◌≡◌}
-use Prim.Native.Nat.{ℕ, ◌-◌, ◌<◌}
+-- The bits of the places so far agree with the stamps. Assumes nothing.
+use Rattle.std.proofs.Common.{◌≡◌, ℕ, ◌<◌}
 use Rattle.bits.specs.Map.{bit}
 use Rattle.table.specs.Table.{stamp, sign}
 use Rattle.arena.proofs.check_marks.Given as goal
 
 abbrev pub invariant-loop-p : goal.invariant-loop-p
 invariant-loop-p l = (q : ℕ) → q < l.p → bit l.b q ≡ sign (stamp l.n l.t q)
-
-abbrev pub decreases-loop-p : goal.decreases-loop-p
-decreases-loop-p l = l.n - l.p

@@ -1,9 +1,5 @@
 -- An end, in both parts. Assumes nothing.
-use mathlib.Core.Path.{◌≡◌, sym, subst, subst₂}
-use mathlib.Core.List.{List, ◌++◌}
-use Prim.Native.Nat.{ℕ, ◌-◌, ◌≤◌}
-use native.Mathlib.Omega.{arith}
-use lib.ListN.{length, take, drop}
+use Rattle.std.proofs.Common.{◌≡◌, sym, subst, subst₂, List, ◌++◌, ℕ, ◌-◌, ◌≤◌, arith, length, take, drop}
 use Rattle.bits.specs.Map.{Flipped}
 use Rattle.table.specs.Table.{Ended}
 use Rattle.arena.specs.Packed.{front, cells}

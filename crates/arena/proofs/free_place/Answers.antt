@@ -1,7 +1,5 @@
 -- The map says which places are free. Assumes nothing.
-use mathlib.Core.Path.{ap, ◌∙◌}
-use mathlib.Core.List.{List}
-use Prim.Native.Nat.{ℕ}
+use Rattle.std.proofs.Common.{ap, ◌∙◌, List, ℕ}
 use Rattle.bits.specs.Map.{bit, lowest}
 use Rattle.arena.specs.Packed.{cells}
 use Rattle.arena.proofs.Parts.{tail_is}

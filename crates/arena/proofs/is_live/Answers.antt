@@ -1,13 +1,16 @@
 -- A place is live exactly where it has a stamp. Assumes nothing.
-use native.Mathlib.Omega.{arith}
+use Rattle.std.proofs.Common.{ltb, arith}
+use Rattle.std.proofs.lemmas.Bool.{le-ltb}
+use Rattle.arena.specs.Packed.{Alive}
+use Rattle.table.proofs.Checks.{says_false, says_nonzero}
 use Rattle.table.proofs.Live.{live_stamp, stamp_live}
 use Rattle.arena.proofs.is_live.Goals as goal
 
-pub returns-then-n-p : goal.returns-then-n-p
-returns-then-n-p c = λ h. omega (arith, (live_stamp c.requires.table _ h).0)
+pub returns-then-p-n : goal.returns-then-p-n
+returns-then-p-n c =
+    says_nonzero c.stamp_at.result
+    (λ h. stamp_live c.requires.table _ c.if-p-n.true (omega (arith, c.stamp_at.ensures)))
+    (λ a. omega (arith, (live_stamp c.requires.table _ a).1, c.stamp_at.ensures))
 
-pub returns-then-s-eq0 : goal.returns-then-s-eq0
-returns-then-s-eq0 c = λ h. omega (arith, (live_stamp c.requires.table _ h).1, c.stamp_at-s.ensures)
-
-pub returns : goal.returns
-returns c = stamp_live c.requires.table _ (omega arith) (omega (arith, c.stamp_at-s.ensures))
+pub returns-else-p-n : goal.returns-else-p-n
+returns-else-p-n c = says_false (ltb c.args.p c.args.n) (le-ltb _ _ c.if-p-n.false) (λ (a : Alive c.args.n c.args.m.now c.args.p). omega (arith, (live_stamp c.requires.table _ a).0))

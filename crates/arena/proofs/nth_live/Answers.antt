@@ -1,5 +1,5 @@
 -- The order's place at an index is the live list's. Assumes nothing.
-use mathlib.Core.Path.{sym, ◌∙◌}
+use Rattle.std.proofs.Common.{sym, ◌∙◌}
 use Rattle.table.proofs.Live.{live_nth}
 use Rattle.arena.proofs.nth_live.Goals as goal
 

@@ -1,22 +1,11 @@
 -- A start, in both parts. Assumes nothing.
-use mathlib.Core.Path.{◌≡◌, sym, ◌∙◌, subst}
-use mathlib.Core.List.{List, ◌++◌}
-use Prim.Native.Nat.{ℕ, ◌-◌, ◌≤◌}
-use native.Mathlib.Omega.{arith}
-use lib.ListN.{length, take, drop}
-use lib.Seq.{length-take-le}
+use Rattle.std.proofs.Common.{◌≡◌, sym, ◌∙◌, subst, List, ◌++◌, ℕ, ◌-◌, ◌≤◌, arith, length, take, drop}
 use Rattle.bits.specs.Map.{bit}
 use Rattle.table.specs.Table.{Started}
 use Rattle.arena.specs.Packed.{cells}
 use Rattle.arena.proofs.Marks.{fresh}
 use Rattle.arena.proofs.Parts.{front_now, back_now, long_now}
 use Rattle.arena.proofs.start.Goals as goal
-
-pub slice_bounds-start-end-2 : goal.slice_bounds-start-end-2
-slice_bounds-start-end-2 c = sym (length-take-le _ c.args.m.now (omega (arith, c.requires.0)))
-
-pub start-requires : goal.start-requires
-start-requires c = (length-take-le _ c.args.m.now (omega (arith, c.requires.0)), c.requires.1)
 
 pub returns : goal.returns
 returns c =

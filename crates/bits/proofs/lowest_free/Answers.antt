@@ -1,49 +1,50 @@
-use mathlib.Core.Path.{refl, sym, ◌∙◌}
-use Prim.Native.Nat.{ℕ, ◌+◌, ◌*◌, ◌<◌}
-use native.Mathlib.Omega.{arith}
-use Rattle.bits.specs.Map.{bit}
+-- The lowest place that is not marked. Assumes nothing.
+use Rattle.std.proofs.Common.{◌≡◌, sym, ◌∙◌, subst, ℕ, ◌+◌, ◌-◌, ◌*◌, ◌/◌, ◌<◌, List, length, take, drop, get_or, length-drop, arith}
+use lib.Seq.{take_all}
+use Rattle.bits.specs.Map.{bit, Marked, FullGroups}
 use Rattle.bits.proofs.Lowest.{lowest_at, lowest_none}
-use Rattle.bits.proofs.Digits.{word_bit, more_ones, pass_word, some_zero}
+use Rattle.bits.proofs.Digits.{word_bit, more_ones, some_zero}
+use Rattle.bits.proofs.Groups.{words, open_word}
 use Rattle.bits.proofs.lowest_free.Goals as goal
-use Rattle.bits.proofs.lowest_free.Goals.{After-ones-j}
+use Rattle.bits.proofs.lowest_free.Goals.{After-ones}
 
--- of a word that is not full, the ones are marked
-ones_in : (c : After-ones-j) → (i : ℕ) → i < 32 * c.loop-k.k + c.ones-j.result → 0 < bit c.args.b.now i
-ones_in c = more_ones c.args.b.now c.loop-k.k c.word-w.result c.ones-j.result c.word-w.ensures (omega (arith, c.type_inv.b c.loop-k.k)) c.ones-j.ensures c.loop-k.invariant.below.all
+-- what is lent from k on
+tail : (k : ℕ) (b : List ℕ) → take (length b - k) (drop k b) ≡ drop k b
+tail k b = take_all (length b - k) (drop k b) (omega (arith, length-drop k b))
+
+-- of the first word that is not full, the ones are marked
+ones_in : (c : After-ones) → (i : ℕ) → i < 32 * (c.skip_full-from.result + 2 * c.in_ok-k.field-0) + c.ones.result → 0 < bit c.args.b.now i
+ones_in c =
+    let b = c.args.b.now in
+    let k = c.skip_full-from.result in
+    let i = c.in_ok-k.field-0 in
+    let M : Marked b (k + 2 * i) = words b k i c.skip_full-from.ensures (subst (λ (x : List ℕ). FullGroups 2 x i) (tail k b) c.in_ok-k.ensures.1) in
+    more_ones b (k + 2 * i) c.word.result c.ones.result c.word.ensures (omega (arith, c.type_inv.b (k + 2 * i))) c.ones.ensures M.all
 
 -- and they are not all
-fewer : (c : After-ones-j) → c.ones-j.result < 64
+fewer : (c : After-ones) → c.ones.result < 64
 fewer c =
-    let given = c.type_inv.b in
-    let k = c.loop-k.k in
-    some_zero c.word-w.result c.ones-j.result (omega (arith, c.word-w.ensures, given k, given (k + 1))) c.if-w.true c.ones-j.ensures
+    let b = c.args.b.now in
+    let k = c.skip_full-from.result in
+    let i = c.in_ok-k.field-0 in
+    some_zero c.word.result c.ones.result c.word.type_inv
+    (open_word b k i c.word.result (λ j. omega (arith, c.type_inv.b j)) c.word.ensures
+    (subst (λ (x : List ℕ). ¬ ((j : ℕ) → j < 2 → get_or x (i * 2 + j) 0 ≡ 4294967295)) (tail k b) c.in_ok-k.ensures.2)) c.ones.ensures
 
-pub loop-k-init : goal.loop-k-init
-loop-k-init c = c.skip_full-k.ensures
-
-pub overflow_mul-p : goal.overflow_mul-p
-overflow_mul-p c = omega arith
-
-pub overflow_add-p : goal.overflow_add-p
-overflow_add-p c = omega (arith, c.ones-j.ensures.most)
+pub returns-in_err-k : goal.returns-in_err-k
+returns-in_err-k c =
+    let b = c.args.b.now in
+    let k = c.skip_full-from.result in
+    let S = c.skip_full-from.ensures in
+    let M : Marked b (k + 2 * (length (drop k b) / 2)) = words b k (length (drop k b) / 2) S (subst (λ (x : List ℕ). FullGroups 2 x (length x / 2)) (tail k b) c.in_err-k.ensures) in
+    c.from_residual.ensures ∙ sym (lowest_none _ _ (λ i l. M.all i (omega (arith, length-drop k b, S.even, S.inside))))
 
 pub returns-then-p-n : goal.returns-then-p-n
 returns-then-p-n c =
-    sym (lowest_at _ _ _ c.if-p-n.true (ones_in (goal.at.returns-then-p-n c).After-ones-j)
-    (word_bit c.args.b.now c.loop-k.k c.word-w.result c.ones-j.result c.word-w.ensures (omega (arith, c.type_inv.b c.loop-k.k)) (fewer (goal.at.returns-then-p-n c).After-ones-j) ∙ c.ones-j.ensures.at (fewer (goal.at.returns-then-p-n c).After-ones-j)))
+    let o = (goal.at.returns-then-p-n c).After-ones in
+    let k = c.skip_full-from.result + 2 * c.in_ok-k.field-0 in
+    sym (lowest_at _ _ _ c.if-p-n.true (ones_in o)
+    (word_bit c.args.b.now k c.word.result c.ones.result c.word.ensures (omega (arith, c.type_inv.b k)) (fewer o) ∙ c.ones.ensures.at (fewer o)))
 
-pub returns-then-w : goal.returns-then-w
-returns-then-w c = sym (lowest_none _ _ (λ i l. ones_in (goal.at.returns-then-w c).After-ones-j i (omega arith)))
-
-pub loop-k-preserved : goal.loop-k-preserved
-loop-k-preserved c =
-    let given = c.type_inv.b in
-    let i = c.loop-k in
-    record {
-      even = omega arith;
-      inside = omega arith;
-      below = pass_word c.args.b.now i.k (i.k + 2) c.word-w.result (λ j. omega (arith, given j)) c.word-w.ensures (omega (arith, c.if-w.false)) refl i.invariant.below;
-    }
-
-pub returns : goal.returns
-returns c = sym (lowest_none _ _ (λ i l. c.loop-k.invariant.below.all i (omega arith)))
+pub returns-else-p-n : goal.returns-else-p-n
+returns-else-p-n c = sym (lowest_none _ _ (λ i l. ones_in (goal.at.returns-else-p-n c).After-ones i (omega arith)))

@@ -1,16 +1,14 @@
-use mathlib.Core.Path.{refl}
-use native.Mathlib.Omega.{arith}
-use Rattle.bits.proofs.Digits.{pass_eight}
+-- The groups passed are full. Assumes nothing.
+use Rattle.std.proofs.Common.{◌≡◌, ◌*◌, ◌/◌, ◌-◌, ◌%◌, length, subst, arith}
+use Rattle.bits.specs.Map.{Skipped}
+use Rattle.bits.proofs.Groups.{skipped}
 use Rattle.bits.proofs.skip_full.Goals as goal
 
-pub loop-k-init : goal.loop-k-init
-loop-k-init c = record { even = refl; inside = omega arith; below = record { all = λ i l. absurd (omega arith) } }
+pub returns-in-Some : goal.returns-in-Some
+returns-in-Some c = skipped _ _ (omega (arith, c.in-Some.ensures.0)) c.in-Some.ensures.1
 
-pub returns-then-x : goal.returns-then-x
-returns-then-x c = c.loop-k.invariant
-
-pub loop-k-preserved : goal.loop-k-preserved
-loop-k-preserved c = pass_eight _ _ _ _ c.common.ensures c.common-in-loop-k.ensures c.if-x.false c.loop-k-test.true c.loop-k.invariant
-
-pub returns : goal.returns
-returns c = c.loop-k.invariant
+pub returns-in-None : goal.returns-in-None
+returns-in-None c =
+    let b = c.args.b.now in
+    let whole : 16 * (length b / 16) ≡ length b - length b % 16 = omega arith in
+    subst (Skipped b) whole (skipped b (length b / 16) (omega arith) c.in-None.ensures)

@@ -1,14 +1,8 @@
 use Rattle.context.proofs.Books.{packed, finds}
-use Rattle.context.specs.Layout.{kind_of}
 use Rattle.context.proofs.find.Goals as goal
 
 pub find-requires : goal.find-requires
-find-requires c =
-    let r = c.table_span-s in
-    packed c.args.l c.args.m.now (kind_of c.args.k) r.result c.requires r.ensures
+find-requires c = packed c.requires c.table_span-t.ensures
 
 pub returns : goal.returns
-returns c =
-    let r = c.table_span-s in
-    let u = c.find in
-    finds c.args.l c.args.m.now (kind_of c.args.k) r.result c.requires r.ensures c.args.number u.result u.ensures
+returns c = finds c.requires c.table_span-t.ensures _ c.find.result c.find.ensures

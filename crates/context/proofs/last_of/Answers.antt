@@ -1,16 +1,9 @@
-use Rattle.context.proofs.Thin.{length_asked}
+use Rattle.context.proofs.Thin.{linked}
 use Rattle.context.proofs.Neighbours.{last_is}
-use Rattle.context.specs.Layout.{fam_of}
-use mathlib.Core.Path.{◌∙◌}
 use Rattle.context.proofs.last_of.Goals as goal
 
-pub get_tail-requires : goal.get_tail-requires
-get_tail-requires c =
-    let r = c.family_span-s in
-    let asked = length_asked c.args.l c.args.m.now (fam_of c.args.f) r.result c.requires.well r.ensures c.args.k c.requires.k_bound in
-    record { sizes = asked.0; linked = asked.1.0; c_lt_nc = asked.1.1 }
+pub get_tail-requires-clause-linked : goal.get_tail-requires-clause-linked
+get_tail-requires-clause-linked c = linked c.requires.well c.family_span-s.ensures
 
 pub returns : goal.returns
-returns c =
-    let r = c.family_span-s in
-    last_is c.args.l c.args.m.now (fam_of c.args.f) r.result c.requires.well r.ensures c.args.k c.wide.result (c.wide.ensures ∙ c.get_tail.ensures)
+returns c = last_is c.requires.well c.family_span-s.ensures c.get_tail.ensures

@@ -1,19 +1,12 @@
+use Rattle.std.proofs.Common.{arith}
 use Rattle.context.proofs.Books.{packed, next_number_is, next_small}
-use Rattle.context.specs.Layout.{kind_of}
-use native.Mathlib.Omega.{arith}
 use Rattle.context.proofs.next_number.Goals as goal
 
 pub upcoming-requires : goal.upcoming-requires
-upcoming-requires c =
-    let r = c.table_span-s in
-    packed c.args.l c.args.m.now (kind_of c.args.k) r.result c.requires r.ensures
+upcoming-requires c = packed c.requires c.table_span-t.ensures
 
 pub overflow_cast-result : goal.overflow_cast-result
-overflow_cast-result c =
-    let r = c.table_span-s in
-    omega (arith, next_small c.args.l c.args.m.now (kind_of c.args.k) r.result c.requires r.ensures c.upcoming.result c.upcoming.ensures)
+overflow_cast-result c = omega (arith, next_small c.requires c.table_span-t.ensures c.upcoming.ensures)
 
 pub returns : goal.returns
-returns c =
-    let r = c.table_span-s in
-    next_number_is c.args.l c.args.m.now (kind_of c.args.k) r.result c.requires r.ensures c.upcoming.result c.upcoming.ensures
+returns c = next_number_is c.requires c.table_span-t.ensures c.upcoming.ensures

@@ -1,19 +1,12 @@
+use Rattle.std.proofs.Common.{arith}
 use Rattle.context.proofs.Books.{alive_asked, number_is, number_small}
-use Rattle.context.specs.Layout.{kind_of}
-use native.Mathlib.Omega.{arith}
 use Rattle.context.proofs.number_of.Goals as goal
 
 pub number_at-requires : goal.number_at-requires
-number_at-requires c =
-    let r = c.table_span-s in
-    alive_asked c.args.l c.args.m.now (kind_of c.args.k) r.result c.requires.well r.ensures c.args.p c.requires.live
+number_at-requires c = alive_asked c.requires.well c.table_span-t.ensures _ c.requires.live
 
 pub overflow_cast-result : goal.overflow_cast-result
-overflow_cast-result c =
-    let r = c.table_span-s in
-    omega (arith, number_small c.args.l c.args.m.now (kind_of c.args.k) r.result c.requires.well r.ensures c.args.p c.number_at.result c.requires.live c.number_at.ensures)
+overflow_cast-result c = omega (arith, number_small c.requires.well c.table_span-t.ensures c.args.p c.requires.live c.number_at.ensures)
 
 pub returns : goal.returns
-returns c =
-    let r = c.table_span-s in
-    number_is c.args.l c.args.m.now (kind_of c.args.k) r.result c.requires.well r.ensures c.args.p c.number_at.result c.number_at.ensures
+returns c = number_is c.requires.well c.table_span-t.ensures c.number_at.ensures

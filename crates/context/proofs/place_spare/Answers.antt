@@ -1,21 +1,14 @@
-use mathlib.Core.Path.{subst}
-use mathlib.Core.Bool.{Bool}
-use native.Mathlib.Omega.{arith}
-use mathlib.Core.Logic.{by_cases}
-use native.Mathlib.Decide.{ℕ_discrete}
-use Rattle.seqs.specs.Seqs.{Says}
-use Rattle.seqs.proofs.Says.{says_yes}
-use Rattle.table.specs.Table.{stamp}
-use Rattle.table.proofs.Live.{live_stamp, stamp_live}
-use Rattle.arena.specs.Packed.{Alive, front}
+use Rattle.std.proofs.Common.{arith}
+use Rattle.arena.specs.Packed.{Alive}
+use Rattle.table.proofs.Live.{live_stamp}
+use Rattle.seqs.proofs.Says.{says_no, says_yes}
+use Rattle.context.proofs.Sparing.{free_says}
 use Rattle.context.proofs.place_spare.Goals as goal
 
-pub returns-then-g : goal.returns-then-g
-returns-then-g c =
-    let h : Alive c.args.n c.args.t.now c.args.p = says_yes c.is_live-g.result (Alive c.args.n c.args.t.now c.args.p) c.if-g.true c.is_live-g.ensures in
-    record { is = λ e. absurd (omega (arith, e, live_stamp c.requires.0.table c.args.p h)) }
+pub returns-then-is_live : goal.returns-then-is_live
+returns-then-is_live c =
+    rw c.if-is_live.true
+    (record { is = λ e. absurd (omega (arith, e, live_stamp c.requires.0.table c.args.p (says_yes c.is_live.result (Alive c.args.n c.args.t.now c.args.p) c.if-is_live.true c.is_live.ensures))) })
 
-pub returns-then-s-p-ne0 : goal.returns-then-s-p-ne0
-returns-then-s-p-ne0 c = λ S.
-    let h : Alive c.args.n c.args.t.now c.args.p → ⊥ = subst (λ (x : Bool). Says x (Alive c.args.n c.args.t.now c.args.p)) c.if-g.false c.is_live-g.ensures in
-    c.if-s-p-ne0.true (S.is (by_cases (ℕ_discrete (stamp c.args.n (front c.args.n c.args.t.now) c.args.p) 0) (λ e. e) (λ d. absurd (h (stamp_live c.requires.0.table c.args.p c.requires.1.1 (omega (arith, d)))))))
+pub returns-else-is_live : goal.returns-else-is_live
+returns-else-is_live c = free_says c.requires.0 c.requires.1.1 _ (says_no c.is_live.result (Alive c.args.n c.args.t.now c.args.p) c.if-is_live.false c.is_live.ensures)

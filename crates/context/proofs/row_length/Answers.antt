@@ -1,14 +1,8 @@
-use Rattle.context.proofs.Thin.{length_asked, length_is}
-use Rattle.context.specs.Layout.{fam_of}
+use Rattle.context.proofs.Thin.{linked, length_is}
 use Rattle.context.proofs.row_length.Goals as goal
 
-pub count-requires : goal.count-requires
-count-requires c =
-    let r = c.family_span-s in
-    let asked = length_asked c.args.l c.args.m.now (fam_of c.args.f) r.result c.requires.well r.ensures c.args.k c.requires.k_bound in
-    record { sizes = asked.0; linked = asked.1.0; c_lt_nc = asked.1.1 }
+pub count-requires-clause-linked : goal.count-requires-clause-linked
+count-requires-clause-linked c = linked c.requires.well c.family_span-s.ensures
 
 pub returns : goal.returns
-returns c =
-    let r = c.family_span-s in
-    length_is c.args.l c.args.m.now (fam_of c.args.f) r.result c.requires.well r.ensures c.args.k c.count.result c.count.ensures
+returns c = length_is c.requires.well c.family_span-s.ensures c.count.ensures

@@ -1,24 +1,20 @@
-use native.Mathlib.Omega.{arith}
-use Rattle.seqs.proofs.Says.{says_no, says_yes}
-use Rattle.context.specs.Layout.{Caps}
-use Rattle.context.proofs.Begun.{start_refused, start_done}
+use Rattle.std.proofs.Common.{arith, refl, sym, ◌∙◌}
+use Rattle.std.proofs.lemmas.Result.{err_from_is_err_and}
+use Rattle.context.proofs.Begun.{start_refused, start_done, no_store, a_store, was_some, was_none}
 use Rattle.context.proofs.start.Goals as goal
 
-pub returns-then-not-c : goal.returns-then-not-c
-returns-then-not-c c = start_refused c.args.l c.args.m.now (λ w f. says_no c.caps_ok-c.result (Caps c.args.l) c.if-not-c.true c.caps_ok-c.ensures w)
-
-pub size-n-requires : goal.size-n-requires
-size-n-requires c = says_yes c.caps_ok-c.result (Caps c.args.l) c.if-not-c.false c.caps_ok-c.ensures
+pub returns-in_err-n : goal.returns-in_err-n
+returns-in_err-n c =
+    let p = err_from_is_err_and c.from_residual.result c.from_residual.ensures.1 in
+    let w = was_none _ (sym c.ok_or.ensures.value ∙ c.in_err-n.was) in
+    start_refused c.args.l c.args.m.now _ (λ C f. no_store c.words_needed.ensures w.0 C) (rw p.1 (rw (p.2 ∙ w.1) refl))
 
 pub returns-then-m-n : goal.returns-then-m-n
-returns-then-m-n c = start_refused c.args.l c.args.m.now (λ w f. omega (arith, f, c.size-n.ensures.is, c.if-m-n.true))
-
-pub set_up-requires : goal.set_up-requires
-set_up-requires c = record { caps = says_yes c.caps_ok-c.result (Caps c.args.l) c.if-not-c.false c.caps_ok-c.ensures; l_in_bounds = omega (arith, c.size-n.ensures.is, c.if-m-n.false) }
-
-pub shape_of-m : goal.shape_of-m
-shape_of-m c = c.set_up.auto.m
+returns-then-m-n c =
+    let w = a_store c.words_needed.ensures (was_some _ (sym c.ok_or.ensures.value ∙ c.in_ok-n.was)) in
+    start_refused c.args.l c.args.m.now _ (λ C f. omega (arith, f, w.1, c.if-m-n.true)) refl
 
 pub returns : goal.returns
 returns c =
-    start_done c.args.l c.args.m.now _ (says_yes c.caps_ok-c.result (Caps c.args.l) c.if-not-c.false c.caps_ok-c.ensures) (omega (arith, c.size-n.ensures.is, c.if-m-n.false)) c.set_up.ensures
+    let w = a_store c.words_needed.ensures (was_some _ (sym c.ok_or.ensures.value ∙ c.in_ok-n.was)) in
+    start_done c.args.l c.args.m.now _ w.0 (omega (arith, w.1, c.if-m-n.false)) c.set_up.ensures

@@ -1,18 +1,25 @@
+use Rattle.std.proofs.Common.{◌≡◌, refl, sym, ◌∙◌, ℕ, Bool, true, false, Option, Some, None, is_some}
+use mathlib.Core.Bool.{true≢false}
 use Rattle.places.specs.Store.{op, blk}
 use Rattle.context.proofs.Places.{place<}
-use Rattle.context.specs.Steps.{operations}
-use Rattle.context_demo.proofs.Steps.{found, can_link}
+use Rattle.context_demo.proofs.Steps.{can_link}
 use Rattle.context_demo.proofs.put_into.Goals as goal
 
-pub home_of-h-requires : goal.home_of-h-requires
-home_of-h-requires c = record { well = c.requires.well; n_bound = place< c.requires (op, c.in-At.o) (found c.requires op c.args.x c.in-At.o c.find-a.result c.find-a.ensures c.in-At.is) }
+absent : (h : Option ℕ) → is_some h ≡ false → h ≡ None
+absent None e = refl
+absent (Some x) e = absurd (true≢false e)
 
-pub home_of-g-requires : goal.home_of-g-requires
-home_of-g-requires c = record { well = c.requires.well; n_bound = place< c.requires (blk, c.in-At-c.b) (found c.requires blk c.args.y c.in-At-c.b c.find-c.result c.find-c.ensures c.in-At-c.is) }
+pub home_of-requires-clause-n_bound : goal.home_of-requires-clause-n_bound
+home_of-requires-clause-n_bound c = place< c.requires (op, c.in_ok-o.o) c.in_ok-o.ensures.0
 
-pub link_back-requires : goal.link_back-requires
-link_back-requires c =
-    let o = c.in-At.o in
-    let b = c.in-At-c.b in
-    let x = found c.requires op c.args.x c.in-At.o c.find-a.result c.find-a.ensures c.in-At.is in
-    let y = found c.requires blk c.args.y c.in-At-c.b c.find-c.result c.find-c.ensures c.in-At-c.is in record { sound_store = c.requires; member = operations; k_bound = (place< c.requires (blk, b) y, place< c.requires (op, o) x); can_link_to = can_link c.requires o b c.home_of-h.result c.home_of-g.result x y c.home_of-h.ensures c.if-h-ne0.false c.home_of-g.ensures c.if-g-ne0.false }
+pub home_of-requires-2-clause-n_bound : goal.home_of-requires-2-clause-n_bound
+home_of-requires-2-clause-n_bound c = place< c.requires (blk, c.in_ok-b.b) c.in_ok-b.ensures.0
+
+pub link_back-requires-clause-k_bound : goal.link_back-requires-clause-k_bound
+link_back-requires-clause-k_bound c = (place< c.requires (blk, c.in_ok-b.b) c.in_ok-b.ensures.0, place< c.requires (op, c.in_ok-o.o) c.in_ok-o.ensures.0)
+
+pub link_back-requires-clause-can_link_to : goal.link_back-requires-clause-can_link_to
+link_back-requires-clause-can_link_to c =
+    can_link c.requires c.in_ok-o.o c.in_ok-b.b c.home_of.result c.home_of-2.result c.in_ok-o.ensures.0 c.in_ok-b.ensures.0
+    c.home_of.ensures (absent _ (sym c.is_some.ensures ∙ c.if-is_some.false))
+    c.home_of-2.ensures (absent _ (sym c.is_some-2.ensures ∙ c.if-is_some-2.false))

@@ -1,34 +1,63 @@
-use Prim.Native.Nat.{◌+◌, ◌*◌}
+use Rattle.std.proofs.Common.{ap, ◌*◌, ◌+◌}
 use native.Mathlib.Omega.{arith}
+use Rattle.edit.specs.Kinds.{slot_of}
 use Rattle.places.specs.Store.{op}
-use Rattle.places.specs.Roles.{slot_by}
+use Rattle.context.specs.Kinds.{kind_of}
 use Rattle.context.proofs.Places.{place<}
-use Rattle.creation.proofs.Operations.{not_lost, can_use, used, slots_0, slots_1, sets_0, sets_1, value<, block<}
+use Rattle.creation.proofs.Operations.{definition_is, value<, block<, slots_0, slots_1, sets_0, sets_1, can_use, used}
 use Rattle.creation.proofs.bear_use.Goals as goal
-
-pub returns-in_default : goal.returns-in_default
-returns-in_default c = absurd (not_lost c.requires.sound_store (slot_by c.args.sl) c.args.o c.args.i c.args.d c.requires.can_use c.definition-a.result c.definition-a.ensures c.in_default.is)
 
 pub overflow_mul-o : goal.overflow_mul-o
 overflow_mul-o c = omega (arith, c.requires.sound_store.well.caps, place< c.requires.sound_store (op, c.args.o) c.requires.can_use.slot)
 
-pub birth_use-requires : goal.birth_use-requires
-birth_use-requires c = record { sound_store = c.requires.sound_store; s_bound = (omega (arith, place< c.requires.sound_store (op, c.args.o) c.requires.can_use.slot), omega (arith, value< c.requires.sound_store c.args.sl c.args.d c.in-At.p c.definition-a.result c.definition-a.ensures c.in-At.is c.if-sl-eq0.true)); can_bear = can_use c.requires.sound_store (slot_by c.args.sl) c.args.o c.args.i c.args.d c.requires.can_use c.definition-a.result c.definition-a.ensures c.in-At.p c.in-At.is (2 * c.args.o) c.in-At.p (slots_0 c.args.l c.args.sl c.args.o c.if-sl-eq0.true) (sets_0 c.args.l c.args.sl c.in-At.p c.if-sl-eq0.true (value< c.requires.sound_store c.args.sl c.args.d c.in-At.p c.definition-a.result c.definition-a.ensures c.in-At.is c.if-sl-eq0.true)) }
+pub birth_use-requires-clause-s_bound : goal.birth_use-requires-clause-s_bound
+birth_use-requires-clause-s_bound c = (
+  omega (arith, place< c.requires.sound_store (op, c.args.o) c.requires.can_use.slot),
+  omega (arith, value< c.requires.sound_store (slot_of c.args.sl) (kind_of c.definition.result) c.definition.ensures c.args.d c.unwrap-p.result c.find.result c.find.ensures c.unwrap-p.ensures (ap slot_of c.in-Operand.is)),
+)
 
-pub returns-then-sl-eq0 : goal.returns-then-sl-eq0
-returns-then-sl-eq0 c = used c.requires.sound_store (slot_by c.args.sl) c.args.o c.args.i c.args.d c.requires.can_use c.definition-a.result c.definition-a.ensures c.in-At.p c.in-At.is (2 * c.args.o) c.in-At.p (slots_0 c.args.l c.args.sl c.args.o c.if-sl-eq0.true) (sets_0 c.args.l c.args.sl c.in-At.p c.if-sl-eq0.true (value< c.requires.sound_store c.args.sl c.args.d c.in-At.p c.definition-a.result c.definition-a.ensures c.in-At.is c.if-sl-eq0.true)) c.birth_use.result c.birth_use.ensures
+pub birth_use-requires-clause-can_bear : goal.birth_use-requires-clause-can_bear
+birth_use-requires-clause-can_bear c =
+    can_use c.requires.sound_store (slot_of c.args.sl) c.args.o c.args.i c.args.d c.requires.can_use c.unwrap-p.result
+    (definition_is c.requires.sound_store (slot_of c.args.sl) (kind_of c.definition.result) c.definition.ensures c.args.d c.unwrap-p.result c.find.result c.find.ensures c.unwrap-p.ensures)
+    (2 * c.args.o) c.unwrap-p.result (slots_0 c.args.l (slot_of c.args.sl) c.args.o (ap slot_of c.in-Operand.is))
+    (sets_0 c.args.l (slot_of c.args.sl) c.unwrap-p.result (ap slot_of c.in-Operand.is)
+    (value< c.requires.sound_store (slot_of c.args.sl) (kind_of c.definition.result) c.definition.ensures c.args.d c.unwrap-p.result c.find.result c.find.ensures c.unwrap-p.ensures (ap slot_of c.in-Operand.is)))
 
-pub overflow_mul-o-2 : goal.overflow_mul-o-2
-overflow_mul-o-2 c = omega (arith, c.requires.sound_store.well.caps, place< c.requires.sound_store (op, c.args.o) c.requires.can_use.slot)
+pub returns-in-Operand : goal.returns-in-Operand
+returns-in-Operand c =
+    used c.requires.sound_store (slot_of c.args.sl) c.args.o c.args.i c.args.d c.requires.can_use c.unwrap-p.result
+    (definition_is c.requires.sound_store (slot_of c.args.sl) (kind_of c.definition.result) c.definition.ensures c.args.d c.unwrap-p.result c.find.result c.find.ensures c.unwrap-p.ensures)
+    (2 * c.args.o) c.unwrap-p.result (slots_0 c.args.l (slot_of c.args.sl) c.args.o (ap slot_of c.in-Operand.is))
+    (sets_0 c.args.l (slot_of c.args.sl) c.unwrap-p.result (ap slot_of c.in-Operand.is)
+    (value< c.requires.sound_store (slot_of c.args.sl) (kind_of c.definition.result) c.definition.ensures c.args.d c.unwrap-p.result c.find.result c.find.ensures c.unwrap-p.ensures (ap slot_of c.in-Operand.is)))
+    c.birth_use.result c.birth_use.ensures
+
+pub overflow_mul-o-in-Successor : goal.overflow_mul-o-in-Successor
+overflow_mul-o-in-Successor c = omega (arith, c.requires.sound_store.well.caps, place< c.requires.sound_store (op, c.args.o) c.requires.can_use.slot)
 
 pub overflow_add-o : goal.overflow_add-o
 overflow_add-o c = omega (arith, c.requires.sound_store.well.caps, place< c.requires.sound_store (op, c.args.o) c.requires.can_use.slot)
 
 pub overflow_add-l : goal.overflow_add-l
-overflow_add-l c = omega (arith, c.requires.sound_store.well.caps, block< c.requires.sound_store c.args.sl c.args.d c.in-At.p c.definition-a.result c.definition-a.ensures c.in-At.is c.if-sl-eq0.false)
+overflow_add-l c =
+    omega (arith, c.requires.sound_store.well.caps, block< c.requires.sound_store (slot_of c.args.sl) (kind_of c.definition.result) c.definition.ensures c.args.d c.unwrap-p.result c.find.result c.find.ensures c.unwrap-p.ensures (ap slot_of c.in-Successor.is))
 
-pub birth_use-requires-2 : goal.birth_use-requires-2
-birth_use-requires-2 c = record { sound_store = c.requires.sound_store; s_bound = (omega (arith, place< c.requires.sound_store (op, c.args.o) c.requires.can_use.slot), omega (arith, block< c.requires.sound_store c.args.sl c.args.d c.in-At.p c.definition-a.result c.definition-a.ensures c.in-At.is c.if-sl-eq0.false)); can_bear = can_use c.requires.sound_store (slot_by c.args.sl) c.args.o c.args.i c.args.d c.requires.can_use c.definition-a.result c.definition-a.ensures c.in-At.p c.in-At.is (2 * c.args.o + 1) (c.args.l.values + c.in-At.p) (slots_1 c.args.l c.args.sl c.args.o c.if-sl-eq0.false) (sets_1 c.args.l c.args.sl c.in-At.p c.if-sl-eq0.false) }
+pub birth_use-requires-in-Successor-clause-s_bound : goal.birth_use-requires-in-Successor-clause-s_bound
+birth_use-requires-in-Successor-clause-s_bound c = (
+  omega (arith, place< c.requires.sound_store (op, c.args.o) c.requires.can_use.slot),
+  omega (arith, block< c.requires.sound_store (slot_of c.args.sl) (kind_of c.definition.result) c.definition.ensures c.args.d c.unwrap-p.result c.find.result c.find.ensures c.unwrap-p.ensures (ap slot_of c.in-Successor.is)),
+)
 
-pub returns : goal.returns
-returns c = used c.requires.sound_store (slot_by c.args.sl) c.args.o c.args.i c.args.d c.requires.can_use c.definition-a.result c.definition-a.ensures c.in-At.p c.in-At.is (2 * c.args.o + 1) (c.args.l.values + c.in-At.p) (slots_1 c.args.l c.args.sl c.args.o c.if-sl-eq0.false) (sets_1 c.args.l c.args.sl c.in-At.p c.if-sl-eq0.false) c.birth_use-2.result c.birth_use-2.ensures
+pub birth_use-requires-in-Successor-clause-can_bear : goal.birth_use-requires-in-Successor-clause-can_bear
+birth_use-requires-in-Successor-clause-can_bear c =
+    can_use c.requires.sound_store (slot_of c.args.sl) c.args.o c.args.i c.args.d c.requires.can_use c.unwrap-p.result
+    (definition_is c.requires.sound_store (slot_of c.args.sl) (kind_of c.definition.result) c.definition.ensures c.args.d c.unwrap-p.result c.find.result c.find.ensures c.unwrap-p.ensures)
+    (2 * c.args.o + 1) (c.args.l.values + c.unwrap-p.result) (slots_1 c.args.l (slot_of c.args.sl) c.args.o (ap slot_of c.in-Successor.is)) (sets_1 c.args.l (slot_of c.args.sl) c.unwrap-p.result (ap slot_of c.in-Successor.is))
+
+pub returns-in-Successor : goal.returns-in-Successor
+returns-in-Successor c =
+    used c.requires.sound_store (slot_of c.args.sl) c.args.o c.args.i c.args.d c.requires.can_use c.unwrap-p.result
+    (definition_is c.requires.sound_store (slot_of c.args.sl) (kind_of c.definition.result) c.definition.ensures c.args.d c.unwrap-p.result c.find.result c.find.ensures c.unwrap-p.ensures)
+    (2 * c.args.o + 1) (c.args.l.values + c.unwrap-p.result) (slots_1 c.args.l (slot_of c.args.sl) c.args.o (ap slot_of c.in-Successor.is)) (sets_1 c.args.l (slot_of c.args.sl) c.unwrap-p.result (ap slot_of c.in-Successor.is))
+    c.birth_use-in-Successor.result c.birth_use-in-Successor.ensures

@@ -1,35 +1,61 @@
-use mathlib.Core.Path.{refl, ◌∙◌}
+use Rattle.std.proofs.Common.{◌≡◌, refl, ℕ, subst}
+use Rattle.std.proofs.lemmas.Result.{err_from_is_err_and}
 use native.Mathlib.Omega.{arith}
 use Rattle.edit.specs.Taken.{fields_of}
-use Rattle.creation.proofs.Operations.{operation_refused, room_for_operation, operation_begun, operation_done}
+use Rattle.creation.specs.Made.{grown, OperationPartly}
+use Rattle.creation.proofs.Operations.{operation_refused, operation_begun, region_can, region_on, operation_done}
 use Rattle.creation.proofs.new_operation.Goals as goal
 
-pub operation_code-c-requires : goal.operation_code-c-requires
-operation_code-c-requires c = record { sound_store = c.requires.sound_store; passed = c.requires.passed; counts = record { results = c.field-r.ensures; operands = c.field-a.ensures; successors = c.field-s.ensures; regions = c.field-g.ensures } }
+pub returns-in_err-test_operation : goal.returns-in_err-test_operation
+returns-in_err-test_operation c =
+    let p = err_from_is_err_and c.from_residual.result c.from_residual.ensures.1 in
+    rw (p.1, p.2) (operation_refused c.requires.sound_store (fields_of c.args.rec.now) c.of-n.result c.in_err-test_operation.field-0.0 c.in_err-test_operation.ensures)
 
-pub returns-then-c-ne0 : goal.returns-then-c-ne0
-returns-then-c-ne0 c = operation_refused c.requires.sound_store (fields_of c.args.rec.now) c.field-r.result c.field-a.result c.field-s.result c.field-g.result c.operation_code-c.result c.operation_code-c.ensures c.if-c-ne0.true
+pub bear_results-requires : goal.bear_results-requires
+bear_results-requires c = record { from = c.args.m.now; partly = operation_begun (fields_of c.args.rec.now) c.of-n.result (c.in_ok-test_operation.ensures.ready refl) c.field.result c.birth_op-o.result c.field.ensures c.birth_op-o.ensures }
 
-pub birth_op-o-requires : goal.birth_op-o-requires
-birth_op-o-requires c = record { sound_store = c.requires.sound_store; room_for = room_for_operation (fields_of c.args.rec.now) c.field-r.result c.field-a.result c.field-s.result c.field-g.result (c.operation_code-c.ensures.ready c.if-c-ne0.false); flags_bound = omega (arith, c.field-f.ensures, (c.operation_code-c.ensures.ready c.if-c-ne0.false).fields.flags) }
+pub bear_uses-requires : goal.bear_uses-requires
+bear_uses-requires c =
+    let a0 = operation_begun (fields_of c.args.rec.now) c.of-n.result (c.in_ok-test_operation.ensures.ready refl) c.field.result c.birth_op-o.result c.field.ensures c.birth_op-o.ensures in
+    let a1 = c.bear_results.ensures.on c.args.m.now a0 in
+    record { from = c.args.m.now; partly = a1 }
 
-pub overflow_add-n : goal.overflow_add-n
-overflow_add-n c = omega (arith, c.field-r.ensures, c.field-a.ensures, c.field-s.ensures, c.field-g.ensures, (c.operation_code-c.ensures.ready c.if-c-ne0.false).fields.results, (c.operation_code-c.ensures.ready c.if-c-ne0.false).fields.operands, (c.operation_code-c.ensures.ready c.if-c-ne0.false).fields.successors, (c.operation_code-c.ensures.ready c.if-c-ne0.false).fields.regions)
+pub bear_uses-requires-2 : goal.bear_uses-requires-2
+bear_uses-requires-2 c =
+    let a0 = operation_begun (fields_of c.args.rec.now) c.of-n.result (c.in_ok-test_operation.ensures.ready refl) c.field.result c.birth_op-o.result c.field.ensures c.birth_op-o.ensures in
+    let a1 = c.bear_results.ensures.on c.args.m.now a0 in
+    let a2 = c.bear_uses.ensures.on c.args.m.now a1 in
+    record { from = c.args.m.now; partly = a2 }
 
-pub overflow_add-n-2 : goal.overflow_add-n-2
-overflow_add-n-2 c = omega (arith, c.field-r.ensures, c.field-a.ensures, c.field-s.ensures, c.field-g.ensures, (c.operation_code-c.ensures.ready c.if-c-ne0.false).fields.results, (c.operation_code-c.ensures.ready c.if-c-ne0.false).fields.operands, (c.operation_code-c.ensures.ready c.if-c-ne0.false).fields.successors, (c.operation_code-c.ensures.ready c.if-c-ne0.false).fields.regions)
+pub birth_region-requires-clause-sound_store : goal.birth_region-requires-clause-sound_store
+birth_region-requires-clause-sound_store c =
+    let a0 = operation_begun (fields_of c.args.rec.now) c.of-n.result (c.in_ok-test_operation.ensures.ready refl) c.field.result c.birth_op-o.result c.field.ensures c.birth_op-o.ensures in
+    let a1 = c.bear_results.ensures.on c.args.m.now a0 in
+    let a2 = c.bear_uses.ensures.on c.args.m.now a1 in
+    let a3 = c.bear_uses-2.ensures.on c.args.m.now a2 in
+    let a = c.loop.invariant c.of-n.result c.args.m.now refl a3 in
+    a.made.sound
 
-pub overflow_add-n-3 : goal.overflow_add-n-3
-overflow_add-n-3 c = omega (arith, c.field-r.ensures, c.field-a.ensures, c.field-s.ensures, c.field-g.ensures, (c.operation_code-c.ensures.ready c.if-c-ne0.false).fields.results, (c.operation_code-c.ensures.ready c.if-c-ne0.false).fields.operands, (c.operation_code-c.ensures.ready c.if-c-ne0.false).fields.successors, (c.operation_code-c.ensures.ready c.if-c-ne0.false).fields.regions)
+pub birth_region-requires-clause-can_hold : goal.birth_region-requires-clause-can_hold
+birth_region-requires-clause-can_hold c =
+    let a0 = operation_begun (fields_of c.args.rec.now) c.of-n.result (c.in_ok-test_operation.ensures.ready refl) c.field.result c.birth_op-o.result c.field.ensures c.birth_op-o.ensures in
+    let a1 = c.bear_results.ensures.on c.args.m.now a0 in
+    let a2 = c.bear_uses.ensures.on c.args.m.now a1 in
+    let a3 = c.bear_uses-2.ensures.on c.args.m.now a2 in
+    let a = c.loop.invariant c.of-n.result c.args.m.now refl a3 in
+    region_can (fields_of c.args.rec.now) c.of-n.result c.birth_op-o.result c.loop.counter a c.loop-test.true
 
-pub loop-j-init : goal.loop-j-init
-loop-j-init c = (refl, omega arith, λ e A. A)
-
-pub bear_part-requires : goal.bear_part-requires
-bear_part-requires c = record { underway = record { from = c.args.m.now; partly = c.loop-j.invariant.2 c.args.m.now (operation_begun (fields_of c.args.rec.now) c.field-r.result c.field-a.result c.field-s.result c.field-g.result (c.operation_code-c.ensures.ready c.if-c-ne0.false) c.field-f.result c.birth_op-o.result c.field-f.ensures c.birth_op-o.ensures) }; j_bound = c.loop-j-test.true }
-
-pub loop-j-preserved : goal.loop-j-preserved
-loop-j-preserved c = (c.bear_part.auto.m ∙ c.loop-j.invariant.0, omega (arith, c.loop-j-test.true), λ e A. c.bear_part.ensures.on e (c.loop-j.invariant.2 e A))
+pub loop-preserved : goal.loop-preserved
+loop-preserved c = λ n start e A. region_on (fields_of c.args.rec.now) n c.birth_op-o.result c.loop.counter (c.loop.invariant n start e A) (omega (arith, e, c.loop-test.true)) c.birth_region.result c.birth_region.ensures
 
 pub returns : goal.returns
-returns c = operation_done (fields_of c.args.rec.now) c.field-r.result c.field-a.result c.field-s.result c.field-g.result (c.operation_code-c.ensures.ready c.if-c-ne0.false) c.birth_op-o.result c.loop-j.j c.next_number-x.result (omega (arith, c.loop-j-test.false, c.loop-j.invariant.1)) (c.loop-j.invariant.2 c.args.m.now (operation_begun (fields_of c.args.rec.now) c.field-r.result c.field-a.result c.field-s.result c.field-g.result (c.operation_code-c.ensures.ready c.if-c-ne0.false) c.field-f.result c.birth_op-o.result c.field-f.ensures c.birth_op-o.ensures)) (c.operation_code-c.ensures.is ∙ c.if-c-ne0.false) c.requires.passed c.next_number-x.ensures
+returns c =
+    let a0 = operation_begun (fields_of c.args.rec.now) c.of-n.result (c.in_ok-test_operation.ensures.ready refl) c.field.result c.birth_op-o.result c.field.ensures c.birth_op-o.ensures in
+    let a1 = c.bear_results.ensures.on c.args.m.now a0 in
+    let a2 = c.bear_uses.ensures.on c.args.m.now a1 in
+    let a3 = c.bear_uses-2.ensures.on c.args.m.now a2 in
+    let a = c.loop.invariant c.of-n.result c.args.m.now refl a3 in
+    let e : c.loop.counter ≡ c.of-n.result.regions = omega (arith, c.loop-test.false, c.loop.auto.counter-end) in
+    operation_done (fields_of c.args.rec.now) c.of-n.result (c.in_ok-test_operation.ensures.ready refl) c.birth_op-o.result c.next_number-x.result
+    (subst (λ (j : ℕ). OperationPartly c.args.l (fields_of c.args.rec.now) c.of-n.result c.birth_op-o.result (grown (fields_of c.args.rec.now) c.of-n.result c.of-n.result.results c.of-n.result.operands c.of-n.result.successors j) c.args.m.now c.loop.m) e a)
+    c.in_ok-test_operation.ensures.is c.requires.passed c.next_number-x.ensures

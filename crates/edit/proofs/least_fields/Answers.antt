@@ -4,4 +4,4 @@ use Rattle.edit.proofs.least_fields.Goals as goal
 
 pub returns : goal.returns
 unfolding least
-returns c = c.size.ensures
+returns c = c.from.ensures

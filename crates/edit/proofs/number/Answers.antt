@@ -5,4 +5,4 @@ use Rattle.edit.proofs.number.Goals as goal
 
 pub returns : goal.returns
 unfolding number_at
-returns c = omega arith
+returns c = omega (arith, c.from_le_bytes.ensures)

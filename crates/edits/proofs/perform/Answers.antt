@@ -1,83 +1,94 @@
-use mathlib.Core.Path.{refl}
-use native.Mathlib.Omega.{arith}
-use Prim.Native.Nat.{◌+◌, ◌-◌}
+-- Each kind's edit is the one that its arm carries out. Assumes nothing.
+use Rattle.std.proofs.Common.{rules}
 use Rattle.edit.specs.Taken.{fields_of}
-use Rattle.edits.proofs.ByKind.{by_kind}
+use Rattle.edit.specs.declared.Kind.TheVariants.{NewOperation, NewBlock, ReplaceSome, RetargetSome}
+use Rattle.edit.proofs.ByKind.{by_push_use, by_insert_use, by_replace_use, by_remove_use, by_pop_use, by_push_value, by_insert_value, by_remove_value, by_pop_value, by_link_after, by_link_before, by_link_front, by_link_back, by_unlink, by_move_region, by_move_use, by_drop_uses, by_verdict, by_erase_region}
+use Rattle.edits.proofs.ByKind.{same_edit, carried, by_erase, numbered}
+use Rattle.edits.proofs.Zeros.{to_walk, same_zeros}
 use Rattle.edits.proofs.perform.Goals as goal
 
-pub create_edit-requires : goal.create_edit-requires
-create_edit-requires c = record { sound_store = c.requires.sound_store; passed = c.requires.passed; kind_bound = omega arith }
+pub new_operation-requires-clause-passed : goal.new_operation-requires-clause-passed
+new_operation-requires-clause-passed c = rw c.in-NewOperation.is at c.requires.passed
 
-pub returns-then-kind-le2 : goal.returns-then-kind-le2
-returns-then-kind-le2 c =
-    record { performed = c.create_edit.ensures; scratch = refl }
+pub new_block-requires-clause-passed : goal.new_block-requires-clause-passed
+new_block-requires-clause-passed c = rw c.in-NewBlock.is at c.requires.passed
 
-pub use_edit-requires : goal.use_edit-requires
-use_edit-requires c = record { sound_store = c.requires.sound_store; step_bound = (omega (arith, c.requires.passed.from)) }
+pub erase-requires-clause-scratch : goal.erase-requires-clause-scratch
+erase-requires-clause-scratch c = to_walk c.requires.scratch
 
-pub returns-then-kind-le7 : goal.returns-then-kind-le7
-returns-then-kind-le7 c =
-    record { performed = by_kind (fields_of c.args.rec.now) (3 + (c.args.kind - 3)) c.args.kind (omega arith) c.use_edit.ensures; scratch = refl }
+pub erase_region-requires-clause-scratch : goal.erase_region-requires-clause-scratch
+erase_region-requires-clause-scratch c = to_walk c.requires.scratch
 
-pub use_edit-requires-then-kind-le12 : goal.use_edit-requires-then-kind-le12
-use_edit-requires-then-kind-le12 c = record { sound_store = c.requires.sound_store; step_bound = (omega arith) }
+pub returns-in-NewOperation : goal.returns-in-NewOperation
+returns-in-NewOperation c = carried (numbered NewOperation (fields_of c.args.rec.now) c.in-NewOperation.is) c.new_operation.ensures
 
-pub returns-then-kind-le12 : goal.returns-then-kind-le12
-returns-then-kind-le12 c =
-    record { performed = by_kind (fields_of c.args.rec.now) (8 + (c.args.kind - 8)) c.args.kind (omega arith) c.use_edit-then-kind-le12.ensures; scratch = refl }
+pub returns-in-NewBlock : goal.returns-in-NewBlock
+returns-in-NewBlock c = carried (numbered NewBlock (fields_of c.args.rec.now) c.in-NewBlock.is) c.new_block.ensures
 
-pub value_edit-requires : goal.value_edit-requires
-value_edit-requires c = record { sound_store = c.requires.sound_store; step_bound = (omega arith) }
+pub returns-in-ReplaceSome : goal.returns-in-ReplaceSome
+returns-in-ReplaceSome c = carried (numbered ReplaceSome (fields_of c.args.rec.now) c.in-ReplaceSome.is) c.replace_some.ensures
 
-pub returns-then-kind-le16 : goal.returns-then-kind-le16
-returns-then-kind-le16 c =
-    record { performed = by_kind (fields_of c.args.rec.now) (13 + (c.args.kind - 13)) c.args.kind (omega arith) c.value_edit.ensures; scratch = refl }
+pub returns-in-RetargetSome : goal.returns-in-RetargetSome
+returns-in-RetargetSome c = carried (numbered RetargetSome (fields_of c.args.rec.now) c.in-RetargetSome.is) c.retarget_some.ensures
 
-pub value_edit-requires-then-kind-le20 : goal.value_edit-requires-then-kind-le20
-value_edit-requires-then-kind-le20 c = record { sound_store = c.requires.sound_store; step_bound = (omega arith) }
+pub returns-in-PushUse : goal.returns-in-PushUse
+returns-in-PushUse c = carried (cc (by_push_use (fields_of c.args.rec.now) c.in-PushUse.slot)) c.push_use.ensures
 
-pub returns-then-kind-le20 : goal.returns-then-kind-le20
-returns-then-kind-le20 c =
-    record { performed = by_kind (fields_of c.args.rec.now) (17 + (c.args.kind - 17)) c.args.kind (omega arith) c.value_edit-then-kind-le20.ensures; scratch = refl }
+pub returns-in-InsertUse : goal.returns-in-InsertUse
+returns-in-InsertUse c = carried (cc (by_insert_use (fields_of c.args.rec.now) c.in-InsertUse.slot)) c.insert_use.ensures
 
-pub link_edit-requires : goal.link_edit-requires
-link_edit-requires c = record { sound_store = c.requires.sound_store; w_bound = omega arith; step_bound = (omega arith) }
+pub returns-in-ReplaceUse : goal.returns-in-ReplaceUse
+returns-in-ReplaceUse c = carried (cc (by_replace_use (fields_of c.args.rec.now) c.in-ReplaceUse.slot)) c.replace_use.ensures
 
-pub returns-then-kind-le25 : goal.returns-then-kind-le25
-returns-then-kind-le25 c =
-    record { performed = by_kind (fields_of c.args.rec.now) (21 + (c.args.kind - 21)) c.args.kind (omega arith) c.link_edit.ensures; scratch = refl }
+pub returns-in-RemoveUse : goal.returns-in-RemoveUse
+returns-in-RemoveUse c = carried (cc (by_remove_use (fields_of c.args.rec.now) c.in-RemoveUse.slot)) c.remove_use.ensures
 
-pub link_edit-requires-then-kind-le30 : goal.link_edit-requires-then-kind-le30
-link_edit-requires-then-kind-le30 c = record { sound_store = c.requires.sound_store; w_bound = omega arith; step_bound = (omega arith) }
+pub returns-in-PopUse : goal.returns-in-PopUse
+returns-in-PopUse c = carried (cc (by_pop_use (fields_of c.args.rec.now) c.in-PopUse.slot)) c.pop_use.ensures
 
-pub returns-then-kind-le30 : goal.returns-then-kind-le30
-returns-then-kind-le30 c =
-    record { performed = by_kind (fields_of c.args.rec.now) (26 + (c.args.kind - 26)) c.args.kind (omega arith) c.link_edit-then-kind-le30.ensures; scratch = refl }
+pub returns-in-PushValue : goal.returns-in-PushValue
+returns-in-PushValue c = carried (cc (by_push_value (fields_of c.args.rec.now) c.in-PushValue.owner)) c.push_value.ensures
 
-pub move_edit-requires : goal.move_edit-requires
-move_edit-requires c = record { sound_store = c.requires.sound_store; passed = c.requires.passed; le_kind = ((omega arith, omega arith)) }
+pub returns-in-InsertValue : goal.returns-in-InsertValue
+returns-in-InsertValue c = carried (cc (by_insert_value (fields_of c.args.rec.now) c.in-InsertValue.owner)) c.insert_value.ensures
 
-pub returns-then-kind-le35 : goal.returns-then-kind-le35
-returns-then-kind-le35 c =
-    record { performed = c.move_edit.ensures; scratch = refl }
+pub returns-in-RemoveValue : goal.returns-in-RemoveValue
+returns-in-RemoveValue c = carried (cc (by_remove_value (fields_of c.args.rec.now) c.in-RemoveValue.owner)) c.remove_value.ensures
 
-pub drop_edit-requires : goal.drop_edit-requires
-drop_edit-requires c = record { sound_store = c.requires.sound_store; le_kind = ((omega arith, omega arith)) }
+pub returns-in-PopValue : goal.returns-in-PopValue
+returns-in-PopValue c = carried (cc (by_pop_value (fields_of c.args.rec.now) c.in-PopValue.owner)) c.pop_value.ensures
 
-pub returns-then-kind-le38 : goal.returns-then-kind-le38
-returns-then-kind-le38 c =
-    record { performed = c.drop_edit.ensures; scratch = refl }
+pub returns-in-LinkAfter : goal.returns-in-LinkAfter
+returns-in-LinkAfter c = carried (cc (by_link_after (fields_of c.args.rec.now) c.in-LinkAfter.member)) c.link_after.ensures
 
-pub erase_edit-requires : goal.erase_edit-requires
-erase_edit-requires c = record { sound_store = c.requires.sound_store; scratch = c.requires.scratch; le_kind = ((omega arith, omega arith)) }
+pub returns-in-LinkBefore : goal.returns-in-LinkBefore
+returns-in-LinkBefore c = carried (cc (by_link_before (fields_of c.args.rec.now) c.in-LinkBefore.member)) c.link_before.ensures
 
-pub returns-then-kind-le41 : goal.returns-then-kind-le41
-returns-then-kind-le41 c =
-    c.erase_edit.ensures
+pub returns-in-LinkFront : goal.returns-in-LinkFront
+returns-in-LinkFront c = carried (cc (by_link_front (fields_of c.args.rec.now) c.in-LinkFront.member)) c.link_front.ensures
 
-pub verdict_edit-requires : goal.verdict_edit-requires
-verdict_edit-requires c = record { sound_store = c.requires.sound_store; le_kind = ((omega arith, omega (arith, c.requires.passed.to))) }
+pub returns-in-LinkBack : goal.returns-in-LinkBack
+returns-in-LinkBack c = carried (cc (by_link_back (fields_of c.args.rec.now) c.in-LinkBack.member)) c.link_back.ensures
 
-pub returns : goal.returns
-returns c =
-    record { performed = c.verdict_edit.ensures; scratch = refl }
+pub returns-in-Unlink : goal.returns-in-Unlink
+returns-in-Unlink c = carried (cc (by_unlink (fields_of c.args.rec.now) c.in-Unlink.member)) c.unlink_from.ensures
+
+pub returns-in-MoveRegion : goal.returns-in-MoveRegion
+returns-in-MoveRegion c = carried (cc (by_move_region (fields_of c.args.rec.now))) c.move_region.ensures
+
+pub returns-in-MoveUse : goal.returns-in-MoveUse
+returns-in-MoveUse c = carried (cc (by_move_use (fields_of c.args.rec.now) c.in-MoveUse.slot)) c.move_use_to.ensures
+
+pub returns-in-DropUses : goal.returns-in-DropUses
+returns-in-DropUses c = carried (cc (by_drop_uses (fields_of c.args.rec.now) c.in-DropUses.thing)) c.drop_uses.ensures
+
+pub returns-in-Verdict : goal.returns-in-Verdict
+returns-in-Verdict c = carried (cc (by_verdict (fields_of c.args.rec.now) c.in-Verdict.thing)) c.verdict.ensures
+
+pub returns-in-Erase : goal.returns-in-Erase
+returns-in-Erase c =
+    record { performed = same_edit (cc (by_erase (fields_of c.args.rec.now) c.in-Erase.member)) c.erase.ensures.performed; scratch = same_zeros c.requires.scratch (search rules) c.erase.ensures.scratch_2 }
+
+pub returns-in-EraseRegion : goal.returns-in-EraseRegion
+returns-in-EraseRegion c =
+    record { performed = same_edit (cc (by_erase_region (fields_of c.args.rec.now))) c.erase_region.ensures.performed; scratch = same_zeros c.requires.scratch (search rules) c.erase_region.ensures.scratch_2 }

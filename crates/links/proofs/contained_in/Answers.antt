@@ -1,25 +1,24 @@
-use Rattle.links.proofs.Testing.{contained_0, contained_1, block_of_lem, region_of, holds, empty_member}
-use native.Mathlib.Omega.{arith}
+use Rattle.std.proofs.Common.{sym, subst}
+use Rattle.edit.specs.Kinds.{member_of}
+use Rattle.places.specs.Store.{Thing, Live}
+use Rattle.context.specs.Kinds.{fam_of}
 use Rattle.context.specs.Memory.{state_of}
+use Rattle.links.specs.Climbing.{thing_at}
+use Rattle.links.proofs.Sorts.{inner<}
+use Rattle.links.proofs.Testing.{empty_member, not_inside, surely_inside, inside_by}
 use Rattle.links.proofs.contained_in.Goals as goal
 
-pub first_of-first-requires : goal.first_of-first-requires
-first_of-first-requires c = record { well = c.requires.sound_store.well; k_bound = holds c.args.l c.args.w c.requires.w_bound c.args.n c.requires.sound_store c.requires.live }
+pub first_of-requires-clause-k_bound : goal.first_of-requires-clause-k_bound
+first_of-requires-clause-k_bound c = rw c.from.ensures (inner< c.requires.sound_store c.member-x.result.kind c.member-x.result.place (subst (λ (x : Thing). Live (state_of c.args.l c.args.m.now) x) (sym c.member-x.ensures) c.requires.live))
 
-pub returns-then-first-eq0 : goal.returns-then-first-eq0
-returns-then-first-eq0 c =
-    empty_member c.requires.sound_store c.args.w c.requires.w_bound c.args.n c.args.c c.first_of-first.result c.first_of-first.ensures c.if-first-eq0.true
+pub returns-then-is_none : goal.returns-then-is_none
+returns-then-is_none c = empty_member c.requires.sound_store (member_of c.args.w) c.args.n c.args.c c.member-x.result.kind c.member-x.result.place c.member-x.ensures (fam_of c.from.result) c.from.ensures c.first_of.result c.first_of.ensures c.if-is_none.ensures
 
-pub block_in-requires : goal.block_in-requires
-block_in-requires c = record { sound_store = c.requires.sound_store; k_bound = omega arith; live = block_of_lem (state_of c.args.l c.args.m.now) c.args.c c.args.w c.if-w-eq0.true c.requires.live_2 }
+pub returns-in-Ended : goal.returns-in-Ended
+returns-in-Ended c = not_inside c.requires.sound_store.sound (member_of c.args.w) c.args.n c.args.c (thing_at c.member-x.result) c.member-x.ensures c.requires.live_2 c.container_step.result c.container_step.ensures c.in-Ended.is
 
-pub returns-then-w-eq0 : goal.returns-then-w-eq0
-returns-then-w-eq0 c =
-    contained_0 c.requires.sound_store.sound c.args.n c.args.c c.live_count-depth.result c.live_count-depth.ensures.is c.block_in.result c.args.w c.if-w-eq0.true c.requires.live_2 c.block_in.ensures
+pub returns-in-Met : goal.returns-in-Met
+returns-in-Met c = surely_inside c.requires.sound_store.sound (member_of c.args.w) c.args.n c.args.c (thing_at c.member-x.result) c.member-x.ensures c.requires.live_2 c.container_step.result c.container_step.ensures c.in-Met.is
 
-pub region_in-requires : goal.region_in-requires
-region_in-requires c = record { sound_store = c.requires.sound_store; k_bound = omega arith; live = region_of (state_of c.args.l c.args.m.now) c.args.c c.args.w c.if-w-eq0.false c.requires.live_2 }
-
-pub returns : goal.returns
-returns c =
-    contained_1 c.requires.sound_store.sound c.args.n c.args.c c.live_count-depth.result c.live_count-depth.ensures.is c.region_in.result c.args.w c.if-w-eq0.false c.requires.live_2 c.region_in.ensures
+pub returns-in-At : goal.returns-in-At
+returns-in-At c = inside_by c.requires.sound_store.sound (member_of c.args.w) c.args.n c.args.c (thing_at c.member-x.result) c.member-x.ensures c.requires.live_2 c.container_step.result c.container_step.ensures c.in-At.o c.live_count.result c.operation_in.result c.live_count.ensures.is c.in-At.is c.operation_in.ensures

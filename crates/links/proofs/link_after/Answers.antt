@@ -1,13 +1,20 @@
-use Rattle.links.proofs.Performing.{after_done, beside_refused, beside_asked, beside_at}
+use Rattle.std.proofs.lemmas.Result.{err_from_is_err_and}
+use Rattle.edit.specs.Kinds.{member_of}
+use Rattle.edit.specs.Record.{link_after}
+use Rattle.links.proofs.Sorts.{member<, can_stand}
+use Rattle.links.proofs.Performing.{refused, after_done}
 use Rattle.links.proofs.link_after.Goals as goal
 
-pub link_after-requires : goal.link_after-requires
-link_after-requires c =
-    let asked = beside_asked c.requires.sound_store c.args.w c.requires.w_bound c.args.x c.args.mark c.test_beside-t.result c.test_beside-t.ensures c.in-Yes.n c.in-Yes.k c.in-Yes.is in
-    record { sound_store = asked.0; member = asked.1.0; n_bound = asked.1.1.0; can_link_by = asked.1.1.1 }
+pub returns-in_err-n : goal.returns-in_err-n
+returns-in_err-n c =
+    let p = err_from_is_err_and c.from_residual.result c.from_residual.ensures.1 in
+    rw (p.1, p.2) (refused c.requires (link_after (member_of c.args.w) c.args.x c.args.mark) c.in_err-n.field-0.0 c.in_err-n.ensures.first)
 
-pub returns-in-No : goal.returns-in-No
-returns-in-No c = (beside_refused c.requires.sound_store c.args.w c.requires.w_bound c.args.x c.args.mark c.test_beside-t.result c.test_beside-t.ensures c.in-No.r c.in-No.is).0
+pub link_after-requires-clause-n_bound : goal.link_after-requires-clause-n_bound
+link_after-requires-clause-n_bound c = member< (member_of c.args.w) c.args.l c.requires c.in_ok-n.n c.in_ok-n.ensures.may.live
 
-pub returns-in-Yes : goal.returns-in-Yes
-returns-in-Yes c = after_done c.requires.sound_store c.args.w c.requires.w_bound c.args.x c.args.mark c.in-Yes.n c.in-Yes.k (beside_at c.requires.sound_store c.args.w c.requires.w_bound c.args.x c.args.mark c.test_beside-t.result c.test_beside-t.ensures c.in-Yes.n c.in-Yes.k c.in-Yes.is) c.link_after.ensures
+pub link_after-requires-clause-can_link_by : goal.link_after-requires-clause-can_link_by
+link_after-requires-clause-can_link_by c = can_stand (member_of c.args.w) c.args.l c.args.m.now c.args.x c.in_ok-n.n c.in_ok-n.k c.in_ok-n.ensures.container c.in_ok-n.ensures.may c.in_ok-n.ensures.there
+
+pub returns : goal.returns
+returns c = after_done c.requires (member_of c.args.w) c.args.x c.args.mark c.in_ok-n.n c.in_ok-n.k c.in_ok-n.ensures c.link_after.ensures

@@ -1,13 +1,20 @@
-use Rattle.links.proofs.Performing.{before_done, beside_refused, beside_asked, beside_at}
+use Rattle.std.proofs.lemmas.Result.{err_from_is_err_and}
+use Rattle.edit.specs.Kinds.{member_of}
+use Rattle.edit.specs.Record.{link_before}
+use Rattle.links.proofs.Sorts.{member<, can_stand}
+use Rattle.links.proofs.Performing.{refused, before_done}
 use Rattle.links.proofs.link_before.Goals as goal
 
-pub link_before-requires : goal.link_before-requires
-link_before-requires c =
-    let asked = beside_asked c.requires.sound_store c.args.w c.requires.w_bound c.args.x c.args.mark c.test_beside-t.result c.test_beside-t.ensures c.in-Yes.n c.in-Yes.k c.in-Yes.is in
-    record { sound_store = asked.0; member = asked.1.0; n_bound = asked.1.1.0; can_link_by = asked.1.1.1 }
+pub returns-in_err-n : goal.returns-in_err-n
+returns-in_err-n c =
+    let p = err_from_is_err_and c.from_residual.result c.from_residual.ensures.1 in
+    rw (p.1, p.2) (refused c.requires (link_before (member_of c.args.w) c.args.x c.args.mark) c.in_err-n.field-0.0 c.in_err-n.ensures.second)
 
-pub returns-in-No : goal.returns-in-No
-returns-in-No c = (beside_refused c.requires.sound_store c.args.w c.requires.w_bound c.args.x c.args.mark c.test_beside-t.result c.test_beside-t.ensures c.in-No.r c.in-No.is).1
+pub link_before-requires-clause-n_bound : goal.link_before-requires-clause-n_bound
+link_before-requires-clause-n_bound c = member< (member_of c.args.w) c.args.l c.requires c.in_ok-n.n c.in_ok-n.ensures.may.live
 
-pub returns-in-Yes : goal.returns-in-Yes
-returns-in-Yes c = before_done c.requires.sound_store c.args.w c.requires.w_bound c.args.x c.args.mark c.in-Yes.n c.in-Yes.k (beside_at c.requires.sound_store c.args.w c.requires.w_bound c.args.x c.args.mark c.test_beside-t.result c.test_beside-t.ensures c.in-Yes.n c.in-Yes.k c.in-Yes.is) c.link_before.ensures
+pub link_before-requires-clause-can_link_by : goal.link_before-requires-clause-can_link_by
+link_before-requires-clause-can_link_by c = can_stand (member_of c.args.w) c.args.l c.args.m.now c.args.x c.in_ok-n.n c.in_ok-n.k c.in_ok-n.ensures.container c.in_ok-n.ensures.may c.in_ok-n.ensures.there
+
+pub returns : goal.returns
+returns c = before_done c.requires (member_of c.args.w) c.args.x c.args.mark c.in_ok-n.n c.in_ok-n.k c.in_ok-n.ensures c.link_before.ensures

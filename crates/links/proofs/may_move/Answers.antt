@@ -1,28 +1,33 @@
-use Rattle.links.proofs.Moving.{move_stays, move_17, move_19, move_0}
-use Rattle.links.proofs.Climb.{said, denied, operation_walk}
-use mathlib.Core.Path.{refl}
+use Rattle.std.proofs.Common.{refl, true, false}
 use native.Mathlib.Omega.{arith}
 use Rattle.context.proofs.Places.{place<}
 use Rattle.places.specs.Store.{op, reg}
+use Rattle.links.proofs.Climb.{operation_walk}
+use Rattle.links.proofs.Moving.{same_yes, same_no, move_stays, move_17, move_19, move_0}
 use Rattle.links.proofs.may_move.Goals as goal
 
-pub home_of-p-requires : goal.home_of-p-requires
-home_of-p-requires c = record { well = c.requires.sound_store.well; n_bound = place< c.requires.sound_store (reg, c.args.n) c.requires.live }
+pub home_of-requires-clause-n_bound : goal.home_of-requires-clause-n_bound
+home_of-requires-clause-n_bound c = place< c.requires.sound_store (reg, c.args.n) c.requires.live
 
-pub overflow_add-k : goal.overflow_add-k
-overflow_add-k c = omega (arith, place< c.requires.sound_store (op, c.args.k) c.requires.live_2, c.requires.sound_store.well.caps.ops)
+pub returns-then-eq : goal.returns-then-eq
+returns-then-eq c = move_stays c.args.n c.home_of.result c.home_of.ensures c.args.k (same_yes c.home_of.result c.args.k c.if-eq.ensures)
 
-pub returns-then-p-k : goal.returns-then-p-k
-returns-then-p-k c = move_stays c.args.n c.home_of-p.result c.home_of-p.ensures c.args.k c.if-p-k.true
+pub returns-then-operation_in : goal.returns-then-operation_in
+returns-then-operation_in c =
+    move_17 c.args.n c.home_of.result c.home_of.ensures c.args.k (same_no c.home_of.result c.args.k c.if-eq.ensures)
+    (operation_walk c.requires.sound_store.sound.linked (reg, c.args.n) (op, c.args.k) c.requires.live_2 c.live_count.result c.live_count.ensures.is true refl c.if-operation_in.ensures)
 
-pub returns-then-inside : goal.returns-then-inside
-returns-then-inside c = move_17 c.args.n c.home_of-p.result c.home_of-p.ensures c.args.k c.if-p-k.false (said c.operation_in-inside.result _ c.if-inside.true (operation_walk c.requires.sound_store.sound.linked (reg, c.args.n) (op, c.args.k) c.requires.live_2 c.live_count-depth.result c.live_count-depth.ensures.is c.operation_in-inside.result refl c.operation_in-inside.ensures))
+pub row_length-requires-clause-k_bound : goal.row_length-requires-clause-k_bound
+row_length-requires-clause-k_bound c = place< c.requires.sound_store (op, c.args.k) c.requires.live_2
 
-pub row_length-c-requires : goal.row_length-c-requires
-row_length-c-requires c = record { well = c.requires.sound_store.well; k_bound = place< c.requires.sound_store (op, c.args.k) c.requires.live_2 }
-
-pub returns-then-c-ge64 : goal.returns-then-c-ge64
-returns-then-c-ge64 c = move_19 c.args.n c.home_of-p.result c.home_of-p.ensures c.args.k c.if-p-k.false (denied c.operation_in-inside.result _ c.if-inside.false (operation_walk c.requires.sound_store.sound.linked (reg, c.args.n) (op, c.args.k) c.requires.live_2 c.live_count-depth.result c.live_count-depth.ensures.is c.operation_in-inside.result refl c.operation_in-inside.ensures)) c.row_length-c.result c.row_length-c.ensures (λ h. omega (arith, h, c.if-c-ge64.true))
+pub returns-then-row_length-ge-MOST_REGIONS : goal.returns-then-row_length-ge-MOST_REGIONS
+returns-then-row_length-ge-MOST_REGIONS c =
+    move_19 c.args.n c.home_of.result c.home_of.ensures c.args.k (same_no c.home_of.result c.args.k c.if-eq.ensures)
+    (operation_walk c.requires.sound_store.sound.linked (reg, c.args.n) (op, c.args.k) c.requires.live_2 c.live_count.result c.live_count.ensures.is false refl c.if-operation_in.ensures)
+    c.row_length.result c.row_length.ensures (λ h. omega (arith, h, c.if-row_length-ge-MOST_REGIONS.true))
 
 pub returns : goal.returns
-returns c = move_0 c.args.n c.home_of-p.result c.home_of-p.ensures c.args.k c.if-p-k.false (denied c.operation_in-inside.result _ c.if-inside.false (operation_walk c.requires.sound_store.sound.linked (reg, c.args.n) (op, c.args.k) c.requires.live_2 c.live_count-depth.result c.live_count-depth.ensures.is c.operation_in-inside.result refl c.operation_in-inside.ensures)) c.row_length-c.result c.row_length-c.ensures (omega (arith, c.if-c-ge64.false))
+returns c =
+    move_0 c.args.n c.home_of.result c.home_of.ensures c.args.k (same_no c.home_of.result c.args.k c.if-eq.ensures)
+    (operation_walk c.requires.sound_store.sound.linked (reg, c.args.n) (op, c.args.k) c.requires.live_2 c.live_count.result c.live_count.ensures.is false refl c.if-operation_in.ensures)
+    c.row_length.result c.row_length.ensures (omega (arith, c.if-row_length-ge-MOST_REGIONS.false))

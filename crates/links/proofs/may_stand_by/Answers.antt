@@ -1,30 +1,29 @@
-use Rattle.links.proofs.Testing.{linked_15, linked_none, mark_16, mark_in, mark_live, inside_yes, inside_no}
-use Rattle.links.proofs.Sorts.{member<}
-use Rattle.links.proofs.Climb.{said, denied}
+use Rattle.std.proofs.Common.{sym, ◌∙◌}
+use Rattle.edit.specs.Kinds.{member_of}
+use Rattle.places.specs.Members.{home_of, mark_code}
+use Rattle.context.specs.Kinds.{fam_of}
 use Rattle.context.specs.Memory.{state_of}
-use Rattle.places.specs.Members.{mark_code, home_of}
-use Rattle.places.specs.Roles.{member_by}
-use mathlib.Core.Path.{sym, ◌∙◌}
-use Prim.Native.Nat.{◌-◌}
+use Rattle.links.proofs.Sorts.{node<}
+use Rattle.links.proofs.Testing.{held_none, mark_in, mark_live, inside_yes, inside_no}
 use Rattle.links.proofs.may_stand_by.Goals as goal
 
-pub home_of-h-requires : goal.home_of-h-requires
-home_of-h-requires c = record { well = c.requires.sound_store.well; n_bound = member< c.args.w c.requires.w_bound c.args.l c.requires.sound_store c.args.n c.requires.live }
+pub home_of-requires-clause-n_bound : goal.home_of-requires-clause-n_bound
+home_of-requires-clause-n_bound c = node< (member_of c.args.w) c.args.l (fam_of c.from.result) c.from.ensures c.args.n c.requires.sound_store c.requires.live
 
-pub returns-then-h-ne0 : goal.returns-then-h-ne0
-returns-then-h-ne0 c = sym (linked_15 c.args.w c.requires.w_bound c.args.n c.home_of-h.result c.home_of-h.ensures 15 (mark_code (state_of c.args.l c.args.m.now) (member_by c.args.w) c.args.n (home_of (state_of c.args.l c.args.m.now) (member_by c.args.w) c.args.k)) c.if-h-ne0.true)
+pub home_of-requires-2-clause-n_bound : goal.home_of-requires-2-clause-n_bound
+home_of-requires-2-clause-n_bound c = node< (member_of c.args.w) c.args.l (fam_of c.from-2.result) c.from-2.ensures c.args.k c.requires.sound_store c.requires.live_2
 
-pub home_of-g-requires : goal.home_of-g-requires
-home_of-g-requires c = record { well = c.requires.sound_store.well; n_bound = member< c.args.w c.requires.w_bound c.args.l c.requires.sound_store c.args.k c.requires.live_2 }
+pub contained_in-requires-clause-live_2 : goal.contained_in-requires-clause-live_2
+contained_in-requires-clause-live_2 c = mark_live (member_of c.args.w) c.args.k (fam_of c.from-2.result) c.from-2.ensures c.home_of-2.result c.home_of-2.ensures c.in_ok-c.c c.in_ok-c.ensures.ok_part c.requires.sound_store.sound
 
-pub returns-then-g-eq0 : goal.returns-then-g-eq0
-returns-then-g-eq0 c = sym (linked_none c.args.w c.requires.w_bound c.args.n c.home_of-h.result c.home_of-h.ensures 15 (mark_code (state_of c.args.l c.args.m.now) (member_by c.args.w) c.args.n (home_of (state_of c.args.l c.args.m.now) (member_by c.args.w) c.args.k)) c.if-h-ne0.false ∙ mark_16 c.args.w c.requires.w_bound c.args.k c.home_of-g.result c.home_of-g.ensures c.args.n c.if-g-eq0.true)
-
-pub contained_in-inside-requires : goal.contained_in-inside-requires
-contained_in-inside-requires c = record { sound_store = c.requires.sound_store; w_bound = c.requires.w_bound; live = c.requires.live; live_2 = mark_live c.args.w c.requires.w_bound c.args.k c.home_of-g.result c.home_of-g.ensures c.requires.sound_store.sound c.if-g-eq0.false }
-
-pub returns-then-inside : goal.returns-then-inside
-returns-then-inside c = sym (linked_none c.args.w c.requires.w_bound c.args.n c.home_of-h.result c.home_of-h.ensures 15 (mark_code (state_of c.args.l c.args.m.now) (member_by c.args.w) c.args.n (home_of (state_of c.args.l c.args.m.now) (member_by c.args.w) c.args.k)) c.if-h-ne0.false ∙ mark_in c.args.w c.requires.w_bound c.args.k c.home_of-g.result c.home_of-g.ensures c.args.n c.if-g-eq0.false ∙ inside_yes (state_of c.args.l c.args.m.now) (member_by c.args.w) c.args.n (c.home_of-g.result - 1) (said c.contained_in-inside.result _ c.if-inside.true c.contained_in-inside.ensures))
+pub returns-then-contained_in : goal.returns-then-contained_in
+returns-then-contained_in c =
+    sym (held_none (member_of c.args.w) c.args.n (fam_of c.from.result) c.from.ensures c.home_of.result c.home_of.ensures 15 (mark_code (state_of c.args.l c.args.m.now) (member_of c.args.w) c.args.n (home_of (state_of c.args.l c.args.m.now) (member_of c.args.w) c.args.k)) (sym c.if-is_some.ensures)
+    ∙ mark_in (member_of c.args.w) c.args.k (fam_of c.from-2.result) c.from-2.ensures c.home_of-2.result c.home_of-2.ensures c.in_ok-c.c c.in_ok-c.ensures.ok_part c.args.n
+    ∙ inside_yes (state_of c.args.l c.args.m.now) (member_of c.args.w) c.args.n c.in_ok-c.c c.if-contained_in.ensures)
 
 pub returns : goal.returns
-returns c = sym (linked_none c.args.w c.requires.w_bound c.args.n c.home_of-h.result c.home_of-h.ensures 15 (mark_code (state_of c.args.l c.args.m.now) (member_by c.args.w) c.args.n (home_of (state_of c.args.l c.args.m.now) (member_by c.args.w) c.args.k)) c.if-h-ne0.false ∙ mark_in c.args.w c.requires.w_bound c.args.k c.home_of-g.result c.home_of-g.ensures c.args.n c.if-g-eq0.false ∙ inside_no (state_of c.args.l c.args.m.now) (member_by c.args.w) c.args.n (c.home_of-g.result - 1) (denied c.contained_in-inside.result _ c.if-inside.false c.contained_in-inside.ensures))
+returns c =
+    sym (held_none (member_of c.args.w) c.args.n (fam_of c.from.result) c.from.ensures c.home_of.result c.home_of.ensures 15 (mark_code (state_of c.args.l c.args.m.now) (member_of c.args.w) c.args.n (home_of (state_of c.args.l c.args.m.now) (member_of c.args.w) c.args.k)) (sym c.if-is_some.ensures)
+    ∙ mark_in (member_of c.args.w) c.args.k (fam_of c.from-2.result) c.from-2.ensures c.home_of-2.result c.home_of-2.ensures c.in_ok-c.c c.in_ok-c.ensures.ok_part c.args.n
+    ∙ inside_no (state_of c.args.l c.args.m.now) (member_of c.args.w) c.args.n c.in_ok-c.c c.if-contained_in.ensures)

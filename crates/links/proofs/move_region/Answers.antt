@@ -1,23 +1,24 @@
-use Rattle.links.proofs.Moving.{moving_at, move_refused, move_nothing, may_go, moved_away}
+use Rattle.std.proofs.lemmas.Result.{err_from_is_err_and}
+use Rattle.edit.specs.Record.{move_region}
+use Rattle.places.specs.Store.{reg}
 use Rattle.context.proofs.Places.{place<}
-use Rattle.places.specs.Store.{op, reg}
-use native.Mathlib.Omega.{arith}
+use Rattle.links.proofs.Performing.{refused}
+use Rattle.links.proofs.Moving.{same_yes, same_no, other_by, same_by, move_nothing, may_go, moved_away}
 use Rattle.links.proofs.move_region.Goals as goal
 
-pub home_of-p-requires : goal.home_of-p-requires
-home_of-p-requires c = let v = moving_at c.requires c.args.r c.args.o c.test_move-t.result c.test_move-t.ensures c.in-Yes.n c.in-Yes.k c.in-Yes.is in record { well = c.requires.well; n_bound = place< c.requires (reg, c.in-Yes.n) v.live }
+pub returns-in_err-n : goal.returns-in_err-n
+returns-in_err-n c =
+    let p = err_from_is_err_and c.from_residual.result c.from_residual.ensures.1 in
+    rw (p.1, p.2) (refused c.requires (move_region c.args.r c.args.o) c.in_err-n.field-0.0 c.in_err-n.ensures)
 
-pub overflow_add-k : goal.overflow_add-k
-overflow_add-k c = let v = moving_at c.requires c.args.r c.args.o c.test_move-t.result c.test_move-t.ensures c.in-Yes.n c.in-Yes.k c.in-Yes.is in omega (arith, place< c.requires (op, c.in-Yes.k) v.home, c.requires.well.caps.ops)
+pub home_of-requires-clause-n_bound : goal.home_of-requires-clause-n_bound
+home_of-requires-clause-n_bound c = place< c.requires (reg, c.in_ok-n.n) c.in_ok-n.ensures.live
 
-pub returns-then-p-k : goal.returns-then-p-k
-returns-then-p-k c = move_nothing c.requires c.args.r c.args.o c.in-Yes.n c.in-Yes.k (moving_at c.requires c.args.r c.args.o c.test_move-t.result c.test_move-t.ensures c.in-Yes.n c.in-Yes.k c.in-Yes.is) c.home_of-p.result c.home_of-p.ensures c.if-p-k.true
+pub move_region-requires-clause-can_move_region : goal.move_region-requires-clause-can_move_region
+move_region-requires-clause-can_move_region c = may_go c.requires c.args.r c.args.o c.in_ok-n.n c.in_ok-n.k c.in_ok-n.ensures c.home_of.result c.home_of.ensures (same_no c.home_of.result c.in_ok-n.k (other_by _ c.if-ne.ensures))
 
-pub move_region-requires : goal.move_region-requires
-move_region-requires c = record { sound_store = c.requires; can_move_region = may_go c.requires c.args.r c.args.o c.in-Yes.n c.in-Yes.k (moving_at c.requires c.args.r c.args.o c.test_move-t.result c.test_move-t.ensures c.in-Yes.n c.in-Yes.k c.in-Yes.is) c.home_of-p.result c.home_of-p.ensures c.if-p-k.false }
+pub returns-then-ne : goal.returns-then-ne
+returns-then-ne c = moved_away c.requires c.args.r c.args.o c.in_ok-n.n c.in_ok-n.k c.in_ok-n.ensures c.home_of.result c.home_of.ensures (same_no c.home_of.result c.in_ok-n.k (other_by _ c.if-ne.ensures)) c.move_region.ensures
 
-pub returns-in-No : goal.returns-in-No
-returns-in-No c = move_refused c.requires c.args.r c.args.o c.test_move-t.result c.test_move-t.ensures c.in-No.x c.in-No.is
-
-pub returns-else-p-k : goal.returns-else-p-k
-returns-else-p-k c = moved_away c.requires c.args.r c.args.o c.in-Yes.n c.in-Yes.k (moving_at c.requires c.args.r c.args.o c.test_move-t.result c.test_move-t.ensures c.in-Yes.n c.in-Yes.k c.in-Yes.is) c.home_of-p.result c.home_of-p.ensures c.if-p-k.false c.move_region.ensures
+pub returns-else-ne : goal.returns-else-ne
+returns-else-ne c = move_nothing c.requires c.args.r c.args.o c.in_ok-n.n c.in_ok-n.k c.in_ok-n.ensures c.home_of.result c.home_of.ensures (same_yes c.home_of.result c.in_ok-n.k (same_by _ c.if-ne.ensures))

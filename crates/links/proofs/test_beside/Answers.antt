@@ -1,23 +1,30 @@
-use Rattle.links.proofs.Testing.{no_test, missing_some, no_member_beside, no_mark_beside, tests_beside, standing}
-use Rattle.links.proofs.Sorts.{member_at_lem, no_member}
+use Rattle.std.proofs.Common.{refl}
+use Rattle.std.proofs.lemmas.Result.{err_from_is_err_and}
+use Rattle.edit.specs.Kinds.{member_of, number_of}
+use Rattle.context.specs.Kinds.{kind_of}
 use Rattle.context.specs.Memory.{state_of}
-use Rattle.links.specs.Tests.{missing_code}
-use Rattle.places.specs.Members.{beside_code}
-use Rattle.places.specs.Roles.{member_by}
-use mathlib.Core.Path.{sym, ◌∙◌}
+use Rattle.links.proofs.Sorts.{member_live}
+use Rattle.links.proofs.Testing.{no_member_beside, no_mark_beside, tests_beside, standing}
 use Rattle.links.proofs.test_beside.Goals as goal
 
-pub returns-in_default : goal.returns-in_default
-returns-in_default c = no_test c.missing.result (missing_code c.args.w) c.missing.ensures (missing_some c.missing.result c.args.w c.missing.ensures) (no_member_beside c.requires.sound_store c.args.w c.requires.w_bound c.args.x c.args.mark (no_member c.args.w c.requires.w_bound (state_of c.args.l c.args.m.now) c.args.x c.find-a.result c.find-a.ensures c.in_default.is))
+pub returns-in_err-n : goal.returns-in_err-n
+returns-in_err-n c =
+    let p = err_from_is_err_and c.from_residual.result c.from_residual.ensures.1 in
+    rw (p.1, p.2) (no_member_beside c.requires (member_of c.args.w) c.args.x c.args.mark (kind_of c.from.result) c.in_err-n.field-0.0 c.in_err-n.ensures c.from.ensures)
 
-pub returns-in_default-b : goal.returns-in_default-b
-returns-in_default-b c = no_test c.missing-in_default-b.result (missing_code c.args.w) c.missing-in_default-b.ensures (missing_some c.missing-in_default-b.result c.args.w c.missing-in_default-b.ensures) (no_mark_beside c.requires.sound_store c.args.w c.requires.w_bound c.args.x c.args.mark c.in-At.n (member_at_lem c.args.w c.requires.w_bound (state_of c.args.l c.args.m.now) c.args.x c.find-a.result c.in-At.n c.find-a.ensures c.in-At.is) (no_member c.args.w c.requires.w_bound (state_of c.args.l c.args.m.now) c.args.mark c.find-b.result c.find-b.ensures c.in_default-b.is))
+pub returns-in_err-k : goal.returns-in_err-k
+returns-in_err-k c =
+    let p = err_from_is_err_and c.from_residual-in_err-k.result c.from_residual-in_err-k.ensures.1 in
+    rw (p.1, p.2) (no_mark_beside c.requires (member_of c.args.w) c.args.x c.args.mark c.in_ok-n.n (member_live (member_of c.args.w) (state_of c.args.l c.args.m.now) (kind_of c.from.result) c.args.x c.in_ok-n.n c.from.ensures c.in_ok-n.ensures)
+    (kind_of c.from-2.result) c.in_err-k.field-0.0 c.in_err-k.ensures c.from-2.ensures)
 
-pub may_stand_by-t-requires : goal.may_stand_by-t-requires
-may_stand_by-t-requires c = record { sound_store = c.requires.sound_store; w_bound = c.requires.w_bound; live = (member_at_lem c.args.w c.requires.w_bound (state_of c.args.l c.args.m.now) c.args.x c.find-a.result c.in-At.n c.find-a.ensures c.in-At.is).0; live_2 = (member_at_lem c.args.w c.requires.w_bound (state_of c.args.l c.args.m.now) c.args.mark c.find-b.result c.in-At-b.k c.find-b.ensures c.in-At-b.is).0 }
-
-pub returns-then-t-ne0 : goal.returns-then-t-ne0
-returns-then-t-ne0 c = no_test c.may_stand_by-t.result (beside_code (state_of c.args.l c.args.m.now) (member_by c.args.w) c.in-At.n c.in-At-b.k) c.may_stand_by-t.ensures c.if-t-ne0.true (tests_beside c.requires.sound_store c.args.w c.requires.w_bound c.args.x c.args.mark c.in-At.n (member_at_lem c.args.w c.requires.w_bound (state_of c.args.l c.args.m.now) c.args.x c.find-a.result c.in-At.n c.find-a.ensures c.in-At.is) c.in-At-b.k (member_at_lem c.args.w c.requires.w_bound (state_of c.args.l c.args.m.now) c.args.mark c.find-b.result c.in-At-b.k c.find-b.ensures c.in-At-b.is))
+pub returns-in_err-may_stand_by : goal.returns-in_err-may_stand_by
+returns-in_err-may_stand_by c =
+    let p = err_from_is_err_and c.from_residual-in_err-may_stand_by.result c.from_residual-in_err-may_stand_by.ensures.1 in
+    rw (p.1, p.2) (tests_beside c.requires (member_of c.args.w) c.args.x c.args.mark c.in_ok-n.n (member_live (member_of c.args.w) (state_of c.args.l c.args.m.now) (kind_of c.from.result) c.args.x c.in_ok-n.n c.from.ensures c.in_ok-n.ensures)
+    c.in_ok-k.k (member_live (member_of c.args.w) (state_of c.args.l c.args.m.now) (kind_of c.from-2.result) c.args.mark c.in_ok-k.k c.from-2.ensures c.in_ok-k.ensures) (number_of c.in_err-may_stand_by.field-0.0) c.in_err-may_stand_by.ensures)
 
 pub returns : goal.returns
-returns c = standing c.requires.sound_store c.args.w c.requires.w_bound c.args.x c.args.mark c.in-At.n (member_at_lem c.args.w c.requires.w_bound (state_of c.args.l c.args.m.now) c.args.x c.find-a.result c.in-At.n c.find-a.ensures c.in-At.is) c.in-At-b.k (member_at_lem c.args.w c.requires.w_bound (state_of c.args.l c.args.m.now) c.args.mark c.find-b.result c.in-At-b.k c.find-b.ensures c.in-At-b.is) (sym c.may_stand_by-t.ensures ∙ c.if-t-ne0.false)
+returns c =
+    standing c.requires (member_of c.args.w) c.args.x c.args.mark c.in_ok-n.n (member_live (member_of c.args.w) (state_of c.args.l c.args.m.now) (kind_of c.from.result) c.args.x c.in_ok-n.n c.from.ensures c.in_ok-n.ensures)
+    c.in_ok-k.k (member_live (member_of c.args.w) (state_of c.args.l c.args.m.now) (kind_of c.from-2.result) c.args.mark c.in_ok-k.k c.from-2.ensures c.in_ok-k.ensures) 0 c.in_ok-may_stand_by.ensures refl

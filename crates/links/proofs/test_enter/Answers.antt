@@ -1,24 +1,30 @@
-use Rattle.links.proofs.Testing.{no_test, missing_some, no_member_front, no_container_front, tests_front, entering}
-use Rattle.links.proofs.Sorts.{member_at_lem, no_member, container_at_lem, no_container}
+use Rattle.std.proofs.Common.{refl}
+use Rattle.std.proofs.lemmas.Result.{err_from_is_err_and}
+use Rattle.edit.specs.Kinds.{member_of, number_of}
+use Rattle.context.specs.Kinds.{kind_of}
 use Rattle.context.specs.Memory.{state_of}
-use Rattle.links.specs.Tests.{missing_code}
-use Rattle.places.specs.Members.{enter_code}
-use Rattle.places.specs.Roles.{member_by}
-use mathlib.Core.Path.{sym, ◌∙◌}
-use Prim.Native.Nat.{◌+◌}
+use Rattle.links.proofs.Sorts.{member_live, holder_live}
+use Rattle.links.proofs.Testing.{no_member_front, no_container_front, tests_front, entering}
 use Rattle.links.proofs.test_enter.Goals as goal
 
-pub returns-in_default : goal.returns-in_default
-returns-in_default c = no_test c.missing.result (missing_code c.args.w) c.missing.ensures (missing_some c.missing.result c.args.w c.missing.ensures) (no_member_front c.requires.sound_store c.args.w c.requires.w_bound c.args.x c.args.c (no_member c.args.w c.requires.w_bound (state_of c.args.l c.args.m.now) c.args.x c.find-a.result c.find-a.ensures c.in_default.is))
+pub returns-in_err-n : goal.returns-in_err-n
+returns-in_err-n c =
+    let p = err_from_is_err_and c.from_residual.result c.from_residual.ensures.1 in
+    rw (p.1, p.2) (no_member_front c.requires (member_of c.args.w) c.args.x c.args.c (kind_of c.from.result) c.in_err-n.field-0.0 c.in_err-n.ensures c.from.ensures)
 
-pub returns-in_default-b : goal.returns-in_default-b
-returns-in_default-b c = no_test c.missing-in_default-b.result (missing_code (c.args.w + 1)) c.missing-in_default-b.ensures (missing_some c.missing-in_default-b.result (c.args.w + 1) c.missing-in_default-b.ensures) (no_container_front c.requires.sound_store c.args.w c.requires.w_bound c.args.x c.args.c c.in-At.n (member_at_lem c.args.w c.requires.w_bound (state_of c.args.l c.args.m.now) c.args.x c.find-a.result c.in-At.n c.find-a.ensures c.in-At.is) (no_container c.args.w c.requires.w_bound (state_of c.args.l c.args.m.now) c.args.c c.find-b.result c.find-b.ensures c.in_default-b.is))
+pub returns-in_err-k : goal.returns-in_err-k
+returns-in_err-k c =
+    let p = err_from_is_err_and c.from_residual-in_err-k.result c.from_residual-in_err-k.ensures.1 in
+    rw (p.1, p.2) (no_container_front c.requires (member_of c.args.w) c.args.x c.args.c c.in_ok-n.n (member_live (member_of c.args.w) (state_of c.args.l c.args.m.now) (kind_of c.from.result) c.args.x c.in_ok-n.n c.from.ensures c.in_ok-n.ensures)
+    (kind_of c.container.result) c.in_err-k.field-0.0 c.in_err-k.ensures c.container.ensures)
 
-pub may_enter-t-requires : goal.may_enter-t-requires
-may_enter-t-requires c = record { sound_store = c.requires.sound_store; w_bound = c.requires.w_bound; live = (member_at_lem c.args.w c.requires.w_bound (state_of c.args.l c.args.m.now) c.args.x c.find-a.result c.in-At.n c.find-a.ensures c.in-At.is).0; live_2 = (container_at_lem c.args.w c.requires.w_bound (state_of c.args.l c.args.m.now) c.args.c c.find-b.result c.in-At-b.k c.find-b.ensures c.in-At-b.is).0 }
-
-pub returns-then-t-ne0 : goal.returns-then-t-ne0
-returns-then-t-ne0 c = no_test c.may_enter-t.result (enter_code (state_of c.args.l c.args.m.now) (member_by c.args.w) c.in-At.n c.in-At-b.k) c.may_enter-t.ensures c.if-t-ne0.true (tests_front c.requires.sound_store c.args.w c.requires.w_bound c.args.x c.args.c c.in-At.n (member_at_lem c.args.w c.requires.w_bound (state_of c.args.l c.args.m.now) c.args.x c.find-a.result c.in-At.n c.find-a.ensures c.in-At.is) c.in-At-b.k (container_at_lem c.args.w c.requires.w_bound (state_of c.args.l c.args.m.now) c.args.c c.find-b.result c.in-At-b.k c.find-b.ensures c.in-At-b.is))
+pub returns-in_err-may_enter : goal.returns-in_err-may_enter
+returns-in_err-may_enter c =
+    let p = err_from_is_err_and c.from_residual-in_err-may_enter.result c.from_residual-in_err-may_enter.ensures.1 in
+    rw (p.1, p.2) (tests_front c.requires (member_of c.args.w) c.args.x c.args.c c.in_ok-n.n (member_live (member_of c.args.w) (state_of c.args.l c.args.m.now) (kind_of c.from.result) c.args.x c.in_ok-n.n c.from.ensures c.in_ok-n.ensures)
+    c.in_ok-k.k (holder_live (member_of c.args.w) (state_of c.args.l c.args.m.now) (kind_of c.container.result) c.args.c c.in_ok-k.k c.container.ensures c.in_ok-k.ensures) (number_of c.in_err-may_enter.field-0.0) c.in_err-may_enter.ensures)
 
 pub returns : goal.returns
-returns c = entering c.requires.sound_store c.args.w c.requires.w_bound c.args.x c.args.c c.in-At.n (member_at_lem c.args.w c.requires.w_bound (state_of c.args.l c.args.m.now) c.args.x c.find-a.result c.in-At.n c.find-a.ensures c.in-At.is) c.in-At-b.k (container_at_lem c.args.w c.requires.w_bound (state_of c.args.l c.args.m.now) c.args.c c.find-b.result c.in-At-b.k c.find-b.ensures c.in-At-b.is) (sym c.may_enter-t.ensures ∙ c.if-t-ne0.false)
+returns c =
+    entering c.requires (member_of c.args.w) c.args.x c.args.c c.in_ok-n.n (member_live (member_of c.args.w) (state_of c.args.l c.args.m.now) (kind_of c.from.result) c.args.x c.in_ok-n.n c.from.ensures c.in_ok-n.ensures)
+    c.in_ok-k.k (holder_live (member_of c.args.w) (state_of c.args.l c.args.m.now) (kind_of c.container.result) c.args.c c.in_ok-k.k c.container.ensures c.in_ok-k.ensures) 0 c.in_ok-may_enter.ensures refl

@@ -1,17 +1,23 @@
-use Rattle.links.proofs.Moving.{no_region, no_operation, region_is, operation_is, move_no, move_yes}
+use Rattle.std.proofs.Common.{refl}
+use Rattle.std.proofs.lemmas.Result.{err_from_is_err_and}
+use Rattle.edit.specs.Kinds.{number_of}
+use Rattle.links.proofs.Moving.{no_region, no_operation, move_tests, moving}
 use Rattle.links.proofs.test_move.Goals as goal
 
-pub returns-in_default : goal.returns-in_default
-returns-in_default c = no_region c.requires c.args.r c.args.o c.find-a.result c.find-a.ensures c.in_default.is
+pub returns-in_err-n : goal.returns-in_err-n
+returns-in_err-n c =
+    let p = err_from_is_err_and c.from_residual.result c.from_residual.ensures.1 in
+    rw (p.1, p.2) (no_region c.requires c.args.r c.args.o c.in_err-n.field-0.0 c.in_err-n.ensures)
 
-pub returns-in_default-b : goal.returns-in_default-b
-returns-in_default-b c = no_operation c.requires c.args.r c.args.o c.in-At.n c.find-a.result c.find-a.ensures c.in-At.is c.find-b.result c.find-b.ensures c.in_default-b.is
+pub returns-in_err-k : goal.returns-in_err-k
+returns-in_err-k c =
+    let p = err_from_is_err_and c.from_residual-in_err-k.result c.from_residual-in_err-k.ensures.1 in
+    rw (p.1, p.2) (no_operation c.requires c.args.r c.args.o c.in_ok-n.n c.in_ok-n.ensures c.in_err-k.field-0.0 c.in_err-k.ensures)
 
-pub may_move-t-requires : goal.may_move-t-requires
-may_move-t-requires c = record { sound_store = c.requires; live = (region_is c.requires c.args.r c.args.o c.in-At.n c.find-a.result c.find-a.ensures c.in-At.is).0; live_2 = (operation_is c.requires c.args.r c.args.o c.in-At.n c.find-a.result c.find-a.ensures c.in-At.is c.in-At-b.k c.find-b.result c.find-b.ensures c.in-At-b.is).0 }
-
-pub returns-then-t-ne0 : goal.returns-then-t-ne0
-returns-then-t-ne0 c = move_no c.requires c.args.r c.args.o c.in-At.n c.find-a.result c.find-a.ensures c.in-At.is c.in-At-b.k c.find-b.result c.find-b.ensures c.in-At-b.is c.may_move-t.result c.may_move-t.ensures c.if-t-ne0.true
+pub returns-in_err-may_move : goal.returns-in_err-may_move
+returns-in_err-may_move c =
+    let p = err_from_is_err_and c.from_residual-in_err-may_move.result c.from_residual-in_err-may_move.ensures.1 in
+    rw (p.1, p.2) (move_tests c.requires c.args.r c.args.o c.in_ok-n.n c.in_ok-n.ensures c.in_ok-k.k c.in_ok-k.ensures (number_of c.in_err-may_move.field-0.0) c.in_err-may_move.ensures)
 
 pub returns : goal.returns
-returns c = move_yes c.requires c.args.r c.args.o c.in-At.n c.find-a.result c.find-a.ensures c.in-At.is c.in-At-b.k c.find-b.result c.find-b.ensures c.in-At-b.is c.may_move-t.result c.may_move-t.ensures c.if-t-ne0.false
+returns c = moving c.requires c.args.r c.args.o c.in_ok-n.n c.in_ok-n.ensures c.in_ok-k.k c.in_ok-k.ensures 0 c.in_ok-may_move.ensures refl

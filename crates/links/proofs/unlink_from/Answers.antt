@@ -1,26 +1,33 @@
-use Rattle.links.proofs.Performing.{refused, unlink_gone, unlink_16, unlink_done}
-use Rattle.links.proofs.Testing.{missing_some}
-use Rattle.links.proofs.Sorts.{member_at_lem, no_member, member<, home_at, may_link, stands_at}
-use Rattle.context.specs.Memory.{state_of}
-use Rattle.places.specs.Members.{place_list_at}
-use mathlib.Core.Path.{sym, ◌∙◌}
-use native.Mathlib.Omega.{arith}
-use Prim.Native.Nat.{◌-◌}
+use Rattle.std.proofs.lemmas.Result.{err_from_is_err_and}
+use Rattle.edit.specs.Kinds.{member_of}
 use Rattle.edit.specs.Record.{unlink}
-use Rattle.places.specs.Roles.{member_by}
+use Rattle.edit.specs.declared.Refusal.TheVariants.{Unlinked}
+use Rattle.context.specs.Kinds.{kind_of, fam_of}
+use Rattle.context.specs.Memory.{state_of}
+use Rattle.links.proofs.Sorts.{node<, member_live}
+use Rattle.links.proofs.Performing.{refused, unlink_gone, unlink_16, unlink_can, unlink_done}
 use Rattle.links.proofs.unlink_from.Goals as goal
 
-pub returns-in_default : goal.returns-in_default
-returns-in_default c = refused c.requires.sound_store (unlink (member_by c.args.w) c.args.x) c.missing.result (omega (arith, missing_some c.missing.result c.args.w c.missing.ensures)) (unlink_gone c.requires.sound_store c.args.w c.requires.w_bound c.args.x (no_member c.args.w c.requires.w_bound (state_of c.args.l c.args.m.now) c.args.x c.find-a.result c.find-a.ensures c.in_default.is) ∙ sym c.missing.ensures)
+pub returns-in_err-n : goal.returns-in_err-n
+returns-in_err-n c =
+    let p = err_from_is_err_and c.from_residual.result c.from_residual.ensures.1 in
+    rw (p.1, p.2) (refused c.requires (unlink (member_of c.args.w) c.args.x) c.in_err-n.field-0.0 (unlink_gone c.requires (member_of c.args.w) c.args.x (kind_of c.from.result) c.in_err-n.field-0.0 c.in_err-n.ensures c.from.ensures))
 
-pub home_of-h-requires : goal.home_of-h-requires
-home_of-h-requires c = record { well = c.requires.sound_store.well; n_bound = member< c.args.w c.requires.w_bound c.args.l c.requires.sound_store c.in-At.n (member_at_lem c.args.w c.requires.w_bound (state_of c.args.l c.args.m.now) c.args.x c.find-a.result c.in-At.n c.find-a.ensures c.in-At.is).0 }
+pub home_of-requires-clause-n_bound : goal.home_of-requires-clause-n_bound
+home_of-requires-clause-n_bound c = node< (member_of c.args.w) c.args.l (fam_of c.from-2.result) c.from-2.ensures c.in_ok-n.n c.requires (member_live (member_of c.args.w) (state_of c.args.l c.args.m.now) (kind_of c.from.result) c.args.x c.in_ok-n.n c.from.ensures c.in_ok-n.ensures).0
 
-pub returns-then-h-eq0 : goal.returns-then-h-eq0
-returns-then-h-eq0 c = refused c.requires.sound_store (unlink (member_by c.args.w) c.args.x) 16 (omega arith) (unlink_16 c.requires.sound_store c.args.w c.requires.w_bound c.args.x c.in-At.n c.home_of-h.result (member_at_lem c.args.w c.requires.w_bound (state_of c.args.l c.args.m.now) c.args.x c.find-a.result c.in-At.n c.find-a.ensures c.in-At.is) c.home_of-h.ensures c.if-h-eq0.true)
+pub returns-then-is_none : goal.returns-then-is_none
+returns-then-is_none c =
+    refused c.requires (unlink (member_of c.args.w) c.args.x) Unlinked
+    (unlink_16 c.requires (member_of c.args.w) c.args.x c.in_ok-n.n (member_live (member_of c.args.w) (state_of c.args.l c.args.m.now) (kind_of c.from.result) c.args.x c.in_ok-n.n c.from.ensures c.in_ok-n.ensures)
+    (fam_of c.from-2.result) c.from-2.ensures c.home_of.result c.home_of.ensures c.if-is_none.ensures)
 
-pub unlink-requires : goal.unlink-requires
-unlink-requires c = record { sound_store = c.requires.sound_store; member = may_link c.args.w c.requires.w_bound; stands = stands_at c.args.w c.requires.w_bound c.args.l c.args.m.now c.in-At.n (place_list_at (member_by c.args.w) (c.home_of-h.result - 1)) (home_at c.args.w c.requires.w_bound c.args.l c.in-At.n c.home_of-h.result c.home_of-h.ensures c.if-h-eq0.false) }
+pub unlink-requires-clause-stands : goal.unlink-requires-clause-stands
+unlink-requires-clause-stands c =
+    unlink_can c.requires (member_of c.args.w) c.args.x c.in_ok-n.n (member_live (member_of c.args.w) (state_of c.args.l c.args.m.now) (kind_of c.from.result) c.args.x c.in_ok-n.n c.from.ensures c.in_ok-n.ensures)
+    (fam_of c.from-2.result) c.from-2.ensures c.home_of.result c.home_of.ensures c.if-is_none.ensures
 
 pub returns : goal.returns
-returns c = unlink_done c.requires.sound_store c.args.w c.requires.w_bound c.args.x c.in-At.n c.home_of-h.result (member_at_lem c.args.w c.requires.w_bound (state_of c.args.l c.args.m.now) c.args.x c.find-a.result c.in-At.n c.find-a.ensures c.in-At.is) c.home_of-h.ensures c.if-h-eq0.false c.unlink.ensures
+returns c =
+    unlink_done c.requires (member_of c.args.w) c.args.x c.in_ok-n.n (member_live (member_of c.args.w) (state_of c.args.l c.args.m.now) (kind_of c.from.result) c.args.x c.in_ok-n.n c.from.ensures c.in_ok-n.ensures)
+    (fam_of c.from-2.result) c.from-2.ensures c.home_of.result c.home_of.ensures c.if-is_none.ensures c.unlink.ensures

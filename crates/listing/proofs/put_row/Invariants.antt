@@ -1,18 +1,10 @@
-use mathlib.Core.Path.{◌≡◌}
-use Prim.Native.Nat.{◌-◌, ◌≤◌}
-use mathlib.Core.List.{map}
-use lib.ListN.{length, drop}
-use Rattle.context.specs.Memory.{con, state_of, head_code}
-use Rattle.context.specs.Performed.{abs}
-use Rattle.places.specs.View.{num}
-use Rattle.context.specs.Layout.{fam_of}
-use Rattle.context.specs.Reading.{list_of}
-use Rattle.listing.specs.Writer.{write}
-use Rattle.listing.specs.Lines.{row_text, numbers_among}
+use Rattle.context.specs.Kinds.{fam_of}
+use Rattle.context.proofs.Cursor.{ahead}
+use Rattle.listing.proofs.Rows.{Row}
 use Rattle.listing.proofs.put_row.Given as goal
 
-abbrev pub invariant-loop-i : goal.invariant-loop-i
-invariant-loop-i l = (length l.out ≡ length l.initial.out) × (l.i ≤ l.n) × (l.c ≡ head_code (drop l.i (list_of l.l l.m (con l.l (fam_of l.f) l.k)))) × (write (row_text (abs l.l l.m) (fam_of l.f) (map (num (state_of l.l l.m)) (drop l.i (list_of l.l l.m (con l.l (fam_of l.f) l.k))))) (l.out, l.a) ≡ write (row_text (abs l.l l.m) (fam_of l.f) (numbers_among l.l l.m (fam_of l.f) l.k)) (l.initial.out, l.initial.a))
+abbrev pub invariant-loop-next : goal.invariant-loop-next
+invariant-loop-next l = Row l.l l.m (fam_of l.f) l.k l.next l.initial.pen l.pen
 
-abbrev pub decreases-loop-i : goal.decreases-loop-i
-decreases-loop-i l = l.n - l.i
+abbrev pub decreases-loop-next : goal.decreases-loop-next
+decreases-loop-next l = ahead l.l (fam_of l.f) l.k l.m l.next

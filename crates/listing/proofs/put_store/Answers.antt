@@ -3,4 +3,4 @@ use Rattle.listing.proofs.put_store.Goals as goal
 
 pub returns : goal.returns
 returns c =
-    store_line c.requires c.put_text-a.ensures c.put_count-b.ensures c.put_count-c.ensures c.put_count-d.ensures c.put_count-e.ensures c.put_count-f.ensures c.put_byte.ensures
+    store_line c.requires c.text.ensures c.put_count.ensures c.put_count-2.ensures c.put_count-3.ensures c.put_count-4.ensures c.put_count-5.ensures c.put.ensures

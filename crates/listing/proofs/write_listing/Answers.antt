@@ -1,6 +1,8 @@
+use Rattle.std.proofs.Common.{rules}
 use Rattle.listing.proofs.Texts.{listing_is}
 use Rattle.listing.proofs.write_listing.Goals as goal
 
 pub returns : goal.returns
 returns c =
-    listing_is c.requires c.put_store-a.ensures c.put_things-b.ensures c.put_things-c.ensures c.put_things-d.ensures c.put_things.ensures
+    let w = listing_is c.requires c.put_store.ensures c.put_things.ensures c.put_things-2.ensures c.put_things-3.ensures c.put_things-4.ensures in
+    record { is = search (w.is, w.same, rules) }

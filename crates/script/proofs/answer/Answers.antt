@@ -1,16 +1,17 @@
--- A whole record: refusals 2 to 4, or its edit. Assumes nothing.
-use Rattle.script.proofs.Judging.{answered_refused, answered_asks}
+-- What was read is turned away, or found not ready, or carried out. Assumes nothing.
+use Rattle.std.proofs.lemmas.Result.{err_from_is_err_and}
+use Rattle.script.proofs.Judging.{answered_refused, answered_unready, answered_done}
 use Rattle.script.proofs.answer.Goals as goal
 
-pub judge-requires : goal.judge-requires
-judge-requires c = record { scratch_value = c.requires; passed = c.read_record-read.ensures.passed c.in-Asks.kind c.in-Asks.is }
+pub returns-in_err-kind : goal.returns-in_err-kind
+returns-in_err-kind c =
+    let p = err_from_is_err_and c.from_residual.result c.from_residual.ensures.1 in
+    rw (p.1, p.2) (answered_refused c.args.rec.now c.args.store.now c.args.scratch.now c.in_err-kind.ensures)
 
-pub returns-in-Refused : goal.returns-in-Refused
-returns-in-Refused c =
-    let r = c.read_record-read in
-    answered_refused c.args.rec.now r.result r.ensures c.args.store.now c.args.scratch.now c.in-Refused.n c.in-Refused.is
+pub returns-in_err-l : goal.returns-in_err-l
+returns-in_err-l c =
+    let p = err_from_is_err_and c.from_residual-in_err-l.result c.from_residual-in_err-l.ensures.1 in
+    rw (p.1, p.2) (answered_unready c.args.rec.now c.args.store.now c.args.scratch.now c.in_ok-kind.ensures c.in_err-l.ensures)
 
-pub returns-in-Asks : goal.returns-in-Asks
-returns-in-Asks c =
-    let r = c.read_record-read in
-    answered_asks c.args.rec.now r.result r.ensures c.args.store.now c.args.scratch.now c.in-Asks.kind c.in-Asks.is c.judge.ensures
+pub returns : goal.returns
+returns c = answered_done c.args.rec.now c.args.store.now c.args.scratch.now c.in_ok-kind.ensures c.in_ok-l.ensures c.perform.ensures

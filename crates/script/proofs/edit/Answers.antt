@@ -1,29 +1,17 @@
 -- A single edit: its bytes are one record or not, and then the record is answered. Assumes nothing.
-use native.Mathlib.Omega.{arith}
-use lib.ListN.{length}
-use Rattle.script.proofs.Cleared.{zeros_again}
-use Rattle.script.proofs.Judging.{edited_nothing, edited_broken, edited_more, edited_one}
+use Rattle.std.proofs.lemmas.Result.{err_from_is_err_and}
+use Rattle.script.proofs.Judging.{edited_broken, edited_part, edited_one}
 use Rattle.script.proofs.edit.Goals as goal
 
-pub returns-then-end-bytes : goal.returns-then-end-bytes
-returns-then-end-bytes c =
-    let r = c.next_record-next in
-    edited_more c.args.bytes.now r.result r.ensures c.args.store.now c.args.scratch.now _ c.clear.ensures c.in-Whole.end c.in-Whole.is (omega arith)
+pub returns-in_err-next_record : goal.returns-in_err-next_record
+returns-in_err-next_record c =
+    let p = err_from_is_err_and c.from_residual.result c.from_residual.ensures.1 in
+    rw (p.1, p.2) (edited_broken c.args.bytes.now c.args.store.now c.args.scratch.now c.fill.new.self (c.fill.ensures.after (λ y e. e)) c.in_err-next_record.ensures)
 
-pub answer-requires : goal.answer-requires
-answer-requires c = zeros_again _ (length c.args.scratch.now) c.clear.ensures
+pub returns-then-ne : goal.returns-then-ne
+returns-then-ne c =
+    edited_part c.args.bytes.now c.args.store.now c.args.scratch.now c.fill.new.self (c.fill.ensures.after (λ y e. e)) c.in_ok-next_record.ensures c.if-ne.ensures
 
-pub returns-in-Nothing : goal.returns-in-Nothing
-returns-in-Nothing c =
-    let r = c.next_record-next in
-    edited_nothing c.args.bytes.now r.result r.ensures c.args.store.now c.args.scratch.now _ c.clear.ensures c.in-Nothing.is
-
-pub returns-in-Broken : goal.returns-in-Broken
-returns-in-Broken c =
-    let r = c.next_record-next in
-    edited_broken c.args.bytes.now r.result r.ensures c.args.store.now c.args.scratch.now _ c.clear.ensures c.in-Broken.is
-
-pub returns-else-end-bytes : goal.returns-else-end-bytes
-returns-else-end-bytes c =
-    let r = c.next_record-next in
-    edited_one c.args.bytes.now r.result r.ensures c.args.store.now c.args.scratch.now _ c.clear.ensures c.in-Whole.end c.in-Whole.is (omega (arith, c.if-end-bytes.false)) c.answer.ensures
+pub returns : goal.returns
+returns c =
+    edited_one c.args.bytes.now c.args.store.now c.args.scratch.now c.fill.new.self (c.fill.ensures.after (λ y e. e)) c.in_ok-next_record.ensures c.if-ne.ensures c.answer.ensures

@@ -1,53 +1,22 @@
-use mathlib.Core.Path.{refl, sym, ap, ◌∙◌, subst}
-use native.Mathlib.Omega.{arith}
-use lib.ListN.{length}
-use borrow.Author.Rules.{rules}
-use Rattle.edits.specs.Scratch.{Scratch}
-use Rattle.script.specs.Records.{Stepped}
-use Rattle.script.proofs.Running.{same_room, going_first, going_stop, going_last, going_on, going_end}
+use Rattle.std.proofs.Common.{arith, refl, ◌∙◌}
+use Rattle.script.proofs.Running.{going_first, going_stop, going_last, going_on, going_end}
 use Rattle.script.proofs.run_records.Goals as goal
 
 pub loop-at-init : goal.loop-at-init
-loop-at-init c =
-    (going_first c.args.script.now c.args.answers.now c.requires.sound_store, (refl, refl))
-
-pub record_step-step-requires : goal.record_step-step-requires
-record_step-step-requires c =
-    let p = c.loop-at in record { sound_store = p.invariant.0.sound; scratch = subst (Scratch c.args.l) (sym p.invariant.1.0) c.requires.scratch; at_in_bounds = omega arith; count_in_bounds = omega (arith, p.invariant.0.room, same_room p.invariant.0) }
-
-pub shape_of-scratch-in-Stop : goal.shape_of-scratch-in-Stop
-shape_of-scratch-in-Stop c = omega (arith, ap length c.loop-at.invariant.1.0)
-
-pub returns-in-Stop : goal.returns-in-Stop
-returns-in-Stop c =
-    let p = c.loop-at in
-    let T = subst (Stepped _ _ _ _ _ _ _ _ _ _) c.in-Stop.is c.record_step-step.ensures in
-    record { ran = going_stop p.invariant.0 c.in-Stop.code T; scratch = T.scratch ∙ p.invariant.1.0 }
-
-pub shape_of-scratch-in-Last : goal.shape_of-scratch-in-Last
-shape_of-scratch-in-Last c = omega (arith, ap length c.loop-at.invariant.1.0)
-
-pub returns-in-Last : goal.returns-in-Last
-returns-in-Last c =
-    let p = c.loop-at in
-    let T = subst (Stepped _ _ _ _ _ _ _ _ _ _) c.in-Last.is c.record_step-step.ensures in
-    record { ran = going_last p.invariant.0 T; scratch = T.scratch ∙ p.invariant.1.0 }
-
-pub loop-at-smaller : goal.loop-at-smaller
-loop-at-smaller c =
-    let T = subst (Stepped _ _ _ _ _ _ _ _ _ _) c.in-On.is c.record_step-step.ensures in
-    omega (arith, T.step.lies.head, T.step.lies.inside)
+loop-at-init c = record { going = going_first c.args.script.now c.args.answers.now c.requires.sound_store; scratch = refl }
 
 pub loop-at-preserved : goal.loop-at-preserved
 loop-at-preserved c =
-    let p = c.loop-at in
-    let T = subst (Stepped _ _ _ _ _ _ _ _ _ _) c.in-On.is c.record_step-step.ensures in
-    (going_on p.invariant.0 c.in-On.end T, (T.scratch ∙ p.invariant.1.0, search rules))
+    let T = rw c.in-Ok-Some.field-0-is at c.in-Ok-Some.ensures in
+    record { going = going_on c.loop-at.invariant.going T; scratch = T.scratch ∙ c.loop-at.invariant.scratch }
 
-pub shape_of-scratch : goal.shape_of-scratch
-shape_of-scratch c = ap length c.loop-at.invariant.1.0
+pub returns-in-Ok-None : goal.returns-in-Ok-None
+returns-in-Ok-None c =
+    let T = rw c.in-Ok-None.field-0-is at c.in-Ok-None.ensures in
+    record { ran = going_last c.loop-at.invariant.going T; scratch = T.scratch ∙ c.loop-at.invariant.scratch }
+
+pub returns-in-Err : goal.returns-in-Err
+returns-in-Err c = record { ran = going_stop c.loop-at.invariant.going c.in-Err.ensures; scratch = c.in-Err.ensures.scratch ∙ c.loop-at.invariant.scratch }
 
 pub returns : goal.returns
-returns c =
-    let p = c.loop-at in
-    record { ran = going_end p.invariant.0 (omega arith); scratch = p.invariant.1.0 }
+returns c = record { ran = going_end c.loop-at.invariant.going (omega arith); scratch = c.loop-at.invariant.scratch }

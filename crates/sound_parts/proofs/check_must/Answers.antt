@@ -1,19 +1,8 @@
-use borrow.Author.Count.{below_more}
-use Rattle.table.proofs.Laws.{says_no, says_yes}
+use mathlib.Core.Path.{refl}
+use Rattle.std.proofs.Common.{rules, tests}
 use Rattle.sound_parts.specs.Tests.{MustAt}
-use native.Mathlib.Omega.{arith}
+use Rattle.sound_parts.proofs.Loops.{says_all}
 use Rattle.sound_parts.proofs.check_must.Goals as goal
 
-pub loop-q-init : goal.loop-q-init
-loop-q-init c = λ x l. absurd (omega arith)
-
-pub returns-then-not-k : goal.returns-then-not-k
-returns-then-not-k c = let a = c.args in let y = c.loop-q.q in
-    λ D. says_no c.must_at-k.result (MustAt a.nc a.nn a.s.now a.t.now y) c.if-not-k.true c.must_at-k.ensures (D y (omega arith))
-
-pub loop-q-preserved : goal.loop-q-preserved
-loop-q-preserved c = let a = c.args in let y = c.loop-q.q in
-    below_more (λ x. MustAt a.nc a.nn a.s.now a.t.now x) y c.loop-q.invariant (says_yes c.must_at-k.result (MustAt a.nc a.nn a.s.now a.t.now y) c.if-not-k.false c.must_at-k.ensures)
-
 pub returns : goal.returns
-returns c = λ x l. c.loop-q.invariant x (omega arith)
+returns c = let a = c.args.rows.now in let t = a.nodes in says_all _ _ t.places (λ x. MustAt a.lists.nc t.places a.words.now t.words.now x) c.all.result refl c.all.ensures.ran (λ x b q k. search (rules, tests))

@@ -1,19 +1,21 @@
-use Rattle.table.proofs.Laws.{says_no, says_yes}
-use Rattle.sound_parts.specs.Tests.{Must, Short, Direct}
+use Rattle.std.proofs.Common.{rules, tests, ◌<◌}
+use Rattle.table.specs.Table.{stamp}
+use Rattle.sound_parts.specs.Tests.{RegionsOk}
+use Rattle.sound_parts.proofs.Loops.{homes_as, listed_as, says_last, says_failed}
 use Rattle.sound_parts.proofs.check_regions.Goals as goal
 
-pub returns-then-not-x : goal.returns-then-not-x
-returns-then-not-x c = let a = c.args in λ W. says_no c.check_direct-x.result (Direct a.o a.r a.regions.now a.tr.now a.to.now) c.if-not-x.true c.check_direct-x.ensures W.node
+pub returns-then-check_homes : goal.returns-then-check_homes
+returns-then-check_homes c =
+    let e = c.args.nest.now in
+    let o = e.ops.nodes in
+    let r = e.regions.nodes in
+    let home = homes_as e.in_ops (λ k. 0 < stamp o.places o.words.now k) c.check_homes.ensures (λ k b h. search (rules, tests)) in
+    says_last c.check_homes.result _ _ _ (RegionsOk o.places r.places o.words.now r.words.now e.regions.words.now) c.if-check_homes.true home (λ p q. record { node = p; must = q.0; short = q.1 }) (λ R. (R.must, R.short)) (listed_as e.regions.words.now r.words.now c.check_listed.result e.in_ops e.regions.sized c.check_listed.ensures)
 
-pub returns-then-not-y : goal.returns-then-not-y
-returns-then-not-y c = let a = c.args in λ W. says_no c.check_must-y.result (Must a.o a.r a.regions.now a.tr.now) c.if-not-y.true c.check_must-y.ensures W.must
-
-pub returns-then-not-z : goal.returns-then-not-z
-returns-then-not-z c = let a = c.args in λ W. says_no c.check_short-z.result (Short a.o a.r a.regions.now) c.if-not-z.true c.check_short-z.ensures W.short
-
-pub returns : goal.returns
-returns c = let a = c.args in record {
-  node = says_yes c.check_direct-x.result (Direct a.o a.r a.regions.now a.tr.now a.to.now) c.if-not-x.false c.check_direct-x.ensures;
-  must = says_yes c.check_must-y.result (Must a.o a.r a.regions.now a.tr.now) c.if-not-y.false c.check_must-y.ensures;
-  short = says_yes c.check_short-z.result (Short a.o a.r a.regions.now) c.if-not-z.false c.check_short-z.ensures;
-}
+pub returns-else-check_homes : goal.returns-else-check_homes
+returns-else-check_homes c =
+    let e = c.args.nest.now in
+    let o = e.ops.nodes in
+    let r = e.regions.nodes in
+    let home = homes_as e.in_ops (λ k. 0 < stamp o.places o.words.now k) c.check_homes.ensures (λ k b h. search (rules, tests)) in
+    says_failed c.check_homes.result _ (RegionsOk o.places r.places o.words.now r.words.now e.regions.words.now) c.if-check_homes.false home (λ R. R.node)

@@ -1,15 +1,10 @@
-use borrow.Author.Count.{below_more}
-use native.Mathlib.Omega.{arith}
+use mathlib.Core.Path.{refl}
+use Prim.Native.Nat.{◌≤◌}
+use lib.ListN.{length}
+use Rattle.std.proofs.Common.{rules, tests}
+use Rattle.linked_list.specs.Links.{row}
+use Rattle.sound_parts.proofs.Loops.{says_all}
 use Rattle.sound_parts.proofs.check_short.Goals as goal
 
-pub loop-c-init : goal.loop-c-init
-loop-c-init c = λ x l. absurd (omega arith)
-
-pub returns-then-k-gt64 : goal.returns-then-k-gt64
-returns-then-k-gt64 c = λ D. omega (arith, D c.loop-c.c (omega arith))
-
-pub loop-c-preserved : goal.loop-c-preserved
-loop-c-preserved c = below_more _ _ c.loop-c.invariant (omega arith)
-
 pub returns : goal.returns
-returns c = λ x l. c.loop-c.invariant x (omega arith)
+returns c = let a = c.args.rows.now in says_all _ _ a.lists.nc (λ x. length (row a.lists.nc a.lists.nn a.words.now x) ≤ 64) c.all.result refl c.all.ensures.ran (λ x b q k. search (rules, tests))

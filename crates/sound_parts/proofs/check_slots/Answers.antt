@@ -1,57 +1,53 @@
-use mathlib.Core.Path.{refl}
-use Prim.Native.Nat.{zero, ◌+◌, ◌-◌, ◌*◌, ◌<◌}
-use borrow.Author.Count.{below_more}
-use Rattle.table.proofs.Laws.{says_no, says_yes}
-use Rattle.linked_list.specs.Links.{Linked, row}
-use Rattle.linked_list.proofs.Getters.{code≤, at_ne}
-use Rattle.sound_parts.specs.Tests.{UseAt, SlotsAt, Slots}
-use Rattle.sound_parts.proofs.Laws.{uses_more, uses_all, too_long, unheld, says_of, step_along}
 use native.Mathlib.Omega.{arith}
+use borrow.Author.Count.{below_more}
+use Rattle.std.proofs.Common.{◌*◌, ◌<◌, sym, ◌∙◌}
+use Rattle.std.proofs.lemmas.Option.{slice_get_within}
+use Rattle.linked_list.specs.Links.{row}
+use Rattle.linked_list.proofs.Getters.{node_lt, next_is}
+use Rattle.sound_parts.proofs.Laws.{uses_more, uses_all, too_long, unheld, says_of}
+use Rattle.sound_parts.proofs.Truncated.{linked_as}
+use Rattle.sound_parts.proofs.check_slots.Goals.{then-j-ge-MOST_LISTED-via-then-j-ge-MOST_LISTED, then-j-ge-MOST_LISTED-via-else-j-ge-MOST_LISTED+then-not-use_at}
 use Rattle.sound_parts.proofs.check_slots.Goals as goal
 
-pub search-init : goal.search-init
-search-init c = (refl, (omega arith, λ d l. absurd (omega arith)))
+pub use_at-requires : goal.use_at-requires
+use_at-requires c =
+    let a = c.args in
+    let K = linked_as a.slots.now.lists (2 * a.ops.now.places) a.sets.now.nodes.places a.slots.now.words.now c.requires.slots_sized a.slots.now.linked in
+    let h : c.loop-c.c < 2 * a.ops.now.places = omega arith in
+    (h, node_lt K h c.loop-next.j (sym c.loop-next.invariant.1.here ∙ c.in-Some.is))
 
-pub loop-c-init : goal.loop-c-init
-loop-c-init c = (c.search.invariant.0, (omega arith, (omega arith, c.search.invariant.1.1)))
+pub loop-next-smaller : goal.loop-next-smaller
+loop-next-smaller c =
+    let a = c.args in
+    let p = c.loop-next in
+    omega (arith, slice_get_within (row (2 * a.ops.now.places) a.sets.now.nodes.places a.slots.now.words.now c.loop-c.c) p.j c.in-Some.x (sym p.invariant.1.here ∙ c.in-Some.is))
 
-pub get_head-k-requires : goal.get_head-k-requires
-get_head-k-requires c = record { sizes = c.requires.sizes.0; linked = c.requires.sizes.1; c_lt_nc = omega arith }
-
-pub loop-k-init : goal.loop-k-init
-loop-k-init c = let y = c.loop-c.c in let e = c.get_head-k.ensures in
-    (c.loop-c.invariant.0, record { few = omega arith; within = omega arith; code = e; small = code≤ (c.requires.sizes.1.row y (omega arith)) zero _ e; uses = λ i x l. absurd (omega arith) })
-
-pub use_at-g-requires : goal.use_at-g-requires
-use_at-g-requires c = record { shape = c.requires.shape; sizes = c.requires.sizes_2; c_bound = (omega arith, omega arith) }
-
-pub get_next-k-requires : goal.get_next-k-requires
-get_next-k-requires c = record { sizes = c.requires.sizes.0; linked = c.requires.sizes.1; n_lt_nn = omega arith }
-
-pub loop-k-smaller : goal.loop-k-smaller
-loop-k-smaller c = let a = c.args in let y = c.loop-c.c in let p = c.loop-k in
-    omega (arith, at_ne (row (2 * a.o) a.u a.slots.now y) p.j p.k p.invariant.1.code c.loop-k-test.true)
-
-pub loop-k-preserved : goal.loop-k-preserved
-loop-k-preserved c = let a = c.args in let y = c.loop-c.c in let p = c.loop-k in let w = c.wide-x.result in
-    let K : Linked (2 * a.o) a.u a.slots.now = c.requires.sizes.1 in let h : y < 2 * a.o = omega arith in
-    let e = step_along K y p.j p.k w c.get_next-k.result h p.invariant.1.code c.loop-k-test.true c.wide-x.ensures c.get_next-k.ensures in
-    (p.invariant.0, uses_more a.o a.b a.v a.u a.to.now a.tu.now a.slots.now a.sets.now y p.k p.j w _ p.invariant.1 c.loop-k-test.true (omega arith) c.wide-x.ensures (says_yes c.use_at-g.result (UseAt a.o a.b a.v a.u a.to.now a.tu.now a.sets.now y (w - 1)) c.if-not-g.false c.use_at-g.ensures) e (code≤ (K.row y h) (p.j + 1) _ e))
+pub loop-next-preserved : goal.loop-next-preserved
+loop-next-preserved c =
+    let a = c.args in
+    let S = c.requires.slots_sized in
+    let p = c.loop-next in
+    let K = linked_as a.slots.now.lists (2 * a.ops.now.places) a.sets.now.nodes.places a.slots.now.words.now S a.slots.now.linked in
+    let h : c.loop-c.c < 2 * a.ops.now.places = omega arith in
+    let e = (rw (S.lists, S.nodes) at c.next-next.ensures) ∙ next_is K h p.j (sym p.invariant.1.here ∙ c.in-Some.is) in
+    (p.invariant.0, uses_more _ _ _ _ _ _ _ _ _ p.next c.next-next.result p.j c.in-Some.x p.invariant.1 c.in-Some.is (omega (arith, c.if-j-ge-MOST_LISTED.false)) c.if-not-use_at.ensures e)
 
 pub loop-c-preserved : goal.loop-c-preserved
-loop-c-preserved c = let a = c.args in let y = c.loop-c.c in let p = c.loop-k in
-    (p.invariant.0, (omega arith, (omega arith, below_more (λ d. SlotsAt a.o a.b a.v a.u a.to.now a.tu.now a.slots.now a.sets.now d) y c.loop-c.invariant.1.1.1 (uses_all a.o a.b a.v a.u a.to.now a.tu.now a.slots.now a.sets.now y p.k p.j p.invariant.1 c.loop-k-test.false))))
+loop-c-preserved c =
+    let p = c.loop-next in
+    (p.invariant.0, below_more _ c.loop-c.c c.loop-c.invariant.1 (uses_all _ _ _ _ _ _ _ _ _ p.next p.j p.invariant.1 c.in_default.is))
 
 pub search-preserved : goal.search-preserved
-search-preserved c = (c.loop-c.invariant.0, (omega arith, λ d l. c.loop-c.invariant.1.1.1 d (omega arith)))
+search-preserved c = (c.loop-c.invariant.0, λ d l. c.loop-c.invariant.1 d (omega arith))
 
 pub returns-after-search : goal.returns-after-search
-returns-after-search c = let a = c.args in says_of c.search.ok (Slots a.o a.b a.v a.u a.to.now a.tu.now a.slots.now a.sets.now) c.search.invariant.0 (λ d l. c.search.invariant.1.1 d (omega arith))
+returns-after-search c = says_of c.search.ok _ c.search.invariant.0 (λ d l. c.search.invariant.1 d (omega arith))
 
-pub returns-then-j-ge64 : goal.returns-then-j-ge64
-returns-then-j-ge64 c = let a = c.args in let y = c.loop-c.c in let p = c.loop-k in
-    λ S. too_long a.o a.b a.v a.u a.to.now a.tu.now a.slots.now a.sets.now y p.k p.j p.invariant.1 c.loop-k-test.true (omega arith) (S y (omega arith))
-
-pub returns-then-not-g : goal.returns-then-not-g
-returns-then-not-g c = let a = c.args in let y = c.loop-c.c in let p = c.loop-k in let w = c.wide-x.result in
-    λ S. unheld a.o a.b a.v a.u a.to.now a.tu.now a.slots.now a.sets.now y p.k p.j w p.invariant.1 c.loop-k-test.true c.wide-x.ensures (says_no c.use_at-g.result (UseAt a.o a.b a.v a.u a.to.now a.tu.now a.sets.now y (w - 1)) c.if-not-g.true c.use_at-g.ensures) (S y (omega arith))
+pub returns-then-j-ge-MOST_LISTED : goal.returns-then-j-ge-MOST_LISTED
+returns-then-j-ge-MOST_LISTED c =
+    let p = c.loop-next in
+    let h : c.loop-c.c < 2 * c.args.ops.now.places = omega arith in
+    elim c.then-j-ge-MOST_LISTED.branch [
+      | then-j-ge-MOST_LISTED-via-then-j-ge-MOST_LISTED w ↦ λ S. too_long _ _ _ _ _ _ _ _ _ p.next p.j c.in-Some.x p.invariant.1 c.in-Some.is (omega (arith, w.if-j-ge-MOST_LISTED.true)) (S c.loop-c.c h)
+      | then-j-ge-MOST_LISTED-via-else-j-ge-MOST_LISTED+then-not-use_at w ↦ λ S. unheld _ _ _ _ _ _ _ _ _ p.next p.j c.in-Some.x p.invariant.1 c.in-Some.is w.if-not-use_at.ensures (S c.loop-c.c h)
+    ]

@@ -1,20 +1,20 @@
-use Rattle.table.proofs.Laws.{says_no, says_yes}
-use Prim.Native.Nat.{◌+◌}
-use Rattle.sound_parts.specs.Tests.{Must, Fork, Short}
+use Rattle.std.proofs.Common.{rules, tests}
+use Rattle.sound_parts.specs.Tests.{LivesIn, ValsOk}
+use Rattle.sound_parts.proofs.Loops.{homes_as, listed_as, says_last, says_failed}
 use Rattle.sound_parts.proofs.check_values.Goals as goal
 
-pub returns-then-not-x : goal.returns-then-not-x
-returns-then-not-x c = let a = c.args in λ W. says_no c.check_fork-x.result (Fork a.o a.b a.v a.vals.now a.tv.now a.to.now a.tb.now) c.if-not-x.true c.check_fork-x.ensures W.node
+pub returns-then-check_homes : goal.returns-then-check_homes
+returns-then-check_homes c =
+    let o = c.args.ops.now in
+    let b = c.args.blocks.now in
+    let v = c.args.values.now in
+    let home = homes_as c.requires.values_sized (LivesIn o.places b.places o.words.now b.words.now) c.check_homes.ensures (λ k b h. search (rules, tests)) in
+    says_last c.check_homes.result _ _ _ (ValsOk o.places b.places v.nodes.places o.words.now b.words.now v.nodes.words.now v.words.now) c.if-check_homes.true home (λ p q. record { node = p; must = q.0; short = q.1 }) (λ R. (R.must, R.short)) (listed_as v.words.now v.nodes.words.now c.check_listed.result c.requires.values_sized v.sized c.check_listed.ensures)
 
-pub returns-then-not-y : goal.returns-then-not-y
-returns-then-not-y c = let a = c.args in λ W. says_no c.check_must-y.result (Must (a.o + a.b) a.v a.vals.now a.tv.now) c.if-not-y.true c.check_must-y.ensures W.must
-
-pub returns-then-not-z : goal.returns-then-not-z
-returns-then-not-z c = let a = c.args in λ W. says_no c.check_short-z.result (Short (a.o + a.b) a.v a.vals.now) c.if-not-z.true c.check_short-z.ensures W.short
-
-pub returns : goal.returns
-returns c = let a = c.args in record {
-  node = says_yes c.check_fork-x.result (Fork a.o a.b a.v a.vals.now a.tv.now a.to.now a.tb.now) c.if-not-x.false c.check_fork-x.ensures;
-  must = says_yes c.check_must-y.result (Must (a.o + a.b) a.v a.vals.now a.tv.now) c.if-not-y.false c.check_must-y.ensures;
-  short = says_yes c.check_short-z.result (Short (a.o + a.b) a.v a.vals.now) c.if-not-z.false c.check_short-z.ensures;
-}
+pub returns-else-check_homes : goal.returns-else-check_homes
+returns-else-check_homes c =
+    let o = c.args.ops.now in
+    let b = c.args.blocks.now in
+    let v = c.args.values.now in
+    let home = homes_as c.requires.values_sized (LivesIn o.places b.places o.words.now b.words.now) c.check_homes.ensures (λ k b h. search (rules, tests)) in
+    says_failed c.check_homes.result _ (ValsOk o.places b.places v.nodes.places o.words.now b.words.now v.nodes.words.now v.words.now) c.if-check_homes.false home (λ R. R.node)

@@ -1,13 +1,9 @@
 -- The order so far: prev is the last stamp, or 0. Assumes nothing.
-use mathlib.Core.Path.{◌≡◌}
-use mathlib.Core.Logic.{◌⊎◌}
-use mathlib.Core.List.{List}
-use Prim.Native.Nat.{ℕ, ◌-◌, ◌≤◌, ◌<◌}
-use Rattle.table.specs.Table.{count, order, stamp}
+use Rattle.std.proofs.Common.{◌≡◌, ◌⊎◌, List, ℕ, ◌≤◌, ◌<◌}
+use Rattle.table.specs.Table.{order, stamp}
 use Rattle.table.proofs.check_order.Given as goal
 
 pub record So (n : ℕ) (t : List ℕ) (prev i : ℕ) : Type 0 where
-  pub to : i ≤ count t
   pub inside : (j : ℕ) → j < i → order t j < n
   pub top : (j : ℕ) → j < i → stamp n t (order t j) ≤ prev
   pub used : (j : ℕ) → j < i → 0 < stamp n t (order t j)
@@ -15,7 +11,4 @@ pub record So (n : ℕ) (t : List ℕ) (prev i : ℕ) : Type 0 where
   pub last : (prev ≡ 0) ⊎ ((j : ℕ) × (j < i) × (stamp n t (order t j) ≡ prev))
 
 abbrev pub invariant-loop-i : goal.invariant-loop-i
-invariant-loop-i l = (l.l ≡ count l.t) × So l.n l.t l.prev l.i
-
-abbrev pub decreases-loop-i : goal.decreases-loop-i
-decreases-loop-i l = l.l - l.i
+invariant-loop-i l = So l.n l.t l.prev l.i

@@ -1,12 +1,7 @@
-use native.Mathlib.Omega.{arith}
-use Rattle.table.proofs.Shifts.{begun, part_more, closed}
+-- What a move within the part that was lent does to the whole. Assumes nothing.
+use Rattle.std.proofs.Common.{rules}
+use Rattle.table.proofs.Shifts.{shifted}
 use Rattle.table.proofs.close_gap.Goals as goal
 
-pub loop-i-init : goal.loop-i-init
-loop-i-init c = begun _ c.requires
-
-pub loop-i-preserved : goal.loop-i-preserved
-loop-i-preserved c = part_more _ _ _ c.loop-i.invariant c.loop-i-test.true
-
 pub returns : goal.returns
-returns c = closed _ _ _ c.loop-i.invariant (omega (arith, c.loop-i-test.false))
+returns c = shifted c.args.t.now _ c.args.k c.args.l c.requires.0 c.requires.1 (record { long = search rules; moved = λ i h. search rules; last = λ i h. search rules })

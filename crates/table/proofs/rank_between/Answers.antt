@@ -1,60 +1,62 @@
-use mathlib.Core.Path.{◌≡◌, ap, ◌∙◌}
-use mathlib.Core.Logic.{⊎_elim}
-use mathlib.Core.List.{List}
-use Prim.Native.Nat.{ℕ, ◌+◌, ◌-◌, ◌/◌, ◌≤◌, ◌<◌}
-use native.Mathlib.Omega.{arith}
-use native.Mathlib.Nat.{eq-or-lt_of_le}
-use Rattle.table.specs.Table.{Table, count, order, stamp}
+-- The order rises, so the things with a stamp of at most x stand first. Assumes nothing.
+use Rattle.std.proofs.Common.{◌≡◌, sym, ◌∙◌, ap, ⊎_elim, ℕ, ◌+◌, ◌-◌, ◌≤◌, ◌<◌, Bool, true, false, ◌&&◌, ltb, leb, List, length, get_or, take, drop, arith, rules, tests}
+use Rattle.std.specs.List.Sorted.{IsPartitionPoint, IsPartitionedBy}
+use Rattle.std.proofs.lemmas.Bool.{lt-ltb, le-leb, leb-true, leb-false, cases_lt}
+use Rattle.std.proofs.lemmas.List.Sorted.{IsPartitionPoint-from_clause}
+use Rattle.seqs.specs.Split.{length_part}
+use Rattle.table.specs.Table.{Table, Bracket, Rank, count, order, stamp}
+use Rattle.table.proofs.Laws.{tri}
+use Rattle.table.proofs.Checks.{part_get}
 use Rattle.table.proofs.rank_between.Goals as goal
-use Rattle.table.proofs.rank_between.Goals.{After-get-p}
 
--- s is the stamp of the thing in the middle
-up : (n : ℕ) (t : List ℕ) (x m s p : ℕ) → Table n t → m < count t → p ≡ order t m → s ≡ stamp n t p → s ≤ x → (i : ℕ) → i < m + 1 → stamp n t (order t i) ≤ x
-up n t x m s p T l e f h i q =
-    let g : s ≡ stamp n t (order t m) = f ∙ ap (stamp n t) e in
-    ⊎_elim (λ d. omega (arith, ap (λ (j : ℕ). stamp n t (order t j)) d)) (λ lt. omega (arith, T.rising i m lt l)) (eq-or-lt_of_le {n = i} {m = m} (omega arith))
+-- what the search asks of a place v
+abbrev old : ℕ → List ℕ → ℕ → ℕ → Bool
+old n t x v = ltb v n && leb (get_or t (2 + n + v) 0) x
 
-down : (n : ℕ) (t : List ℕ) (x m s p : ℕ) → Table n t → p ≡ order t m → s ≡ stamp n t p → x < s → (i : ℕ) → m ≤ i → i < count t → x < stamp n t (order t i)
-down n t x m s p T e f h i q l =
-    let g : s ≡ stamp n t (order t m) = f ∙ ap (stamp n t) e in
-    ⊎_elim (λ d. omega (arith, ap (λ (j : ℕ). stamp n t (order t j)) d)) (λ lt. omega (arith, T.rising m i lt l)) (eq-or-lt_of_le q)
+module _ (n : ℕ) (t : List ℕ) (x lo hi : ℕ) (T : Table n t) (B : Bracket n t x lo hi) where
+  abbrev part : List ℕ
+  part = take (2 + hi - (2 + lo)) (drop (2 + lo) t)
 
--- the place in the middle
-p_in : (c : After-get-p) → c.get-p.result < c.args.n
-p_in c =
-    let l = c.loop-lo in
-    omega (arith, c.get-p.ensures, c.requires.0.inside (l.lo + (l.hi - l.lo) / 2) (omega arith))
+  fits : 2 + hi ≤ length t
+  fits = omega (arith, T.size, T.few, B.within)
 
-pub loop-lo-init : goal.loop-lo-init
-loop-lo-init c = c.requires.1
+  long : length part ≡ hi - lo
+  long = length_part (2 + lo) (2 + hi) t fits ∙ omega arith
 
-pub overflow_add-n-in-loop-lo : goal.overflow_add-n-in-loop-lo
-overflow_add-n-in-loop-lo c = omega (arith, p_in (goal.at.overflow_add-n-in-loop-lo c).After-get-p)
+  cell : (i d : ℕ) → i < hi - lo → get_or part i d ≡ order t (lo + i)
+  cell i d h = part_get (2 + lo) (2 + hi) t i (2 + (lo + i)) d fits (omega arith) (omega arith)
 
-pub get-s-requires : goal.get-s-requires
-get-s-requires c = omega (arith, p_in (goal.at.get-s-requires c).After-get-p)
+  -- at a place of the order, the stamp alone decides
+  decides : (i d : ℕ) → i < hi - lo → old n t x (get_or part i d) ≡ leb (stamp n t (order t (lo + i))) x
+  decides i d h = ap (old n t x) (cell i d h) ∙ ap (λ (b : Bool). b && leb (stamp n t (order t (lo + i))) x) (lt-ltb (order t (lo + i)) n (T.inside (lo + i) (omega (arith, B.within))))
 
-pub loop-lo-preserved-then-s-x : goal.loop-lo-preserved-then-s-x
-loop-lo-preserved-then-s-x c =
-    let l = c.loop-lo in
-    record {
-      ordered = omega arith;
-      within = omega arith;
-      low = up c.args.n c.args.t.now c.args.x (l.lo + (l.hi - l.lo) / 2) _ _ c.requires.0 (omega arith) c.get-p.ensures c.get-s.ensures c.if-s-x.true;
-      high = l.invariant.high;
-    }
+  rises : (i j : ℕ) → i ≤ j → j < count t → stamp n t (order t i) ≤ stamp n t (order t j)
+  rises i j h l = ⊎_elim (λ q. omega (arith, T.rising i j q l)) (⊎_elim (λ e. omega (arith, ap (λ (k : ℕ). stamp n t (order t k)) e)) (λ q. absurd (omega arith))) (tri i j)
 
-pub loop-lo-preserved : goal.loop-lo-preserved
-loop-lo-preserved c =
-    let l = c.loop-lo in
-    record {
-      ordered = omega arith;
-      within = omega arith;
-      low = l.invariant.low;
-      high = down c.args.n c.args.t.now c.args.x (l.lo + (l.hi - l.lo) / 2) _ _ c.requires.0 c.get-p.ensures c.get-s.ensures c.if-s-x.false;
-    }
+  parted : IsPartitionedBy (old n t x) part
+  parted i j d h l e =
+      let top : stamp n t (order t (lo + j)) ≤ x = leb-true _ _ (sym (decides j d (omega (arith, long))) ∙ e) in
+      decides i d (omega (arith, long)) ∙ le-leb _ _ (omega (arith, rises (lo + i) (lo + j) (omega arith) (omega (arith, long, B.within))))
+
+  ranked : (k : ℕ) → k ≤ length part → IsPartitionPoint (λ y. old n t x y ≡ true) (λ y. old n t x y ≡ false) part k → Rank n t x (lo + k)
+  ranked k f P = record {
+    within = omega (arith, long, B.ordered, B.within);
+    low = λ i h. ⊎_elim (λ q. B.low i q)
+        (λ q.
+        let e : lo + (i - lo) ≡ i = omega arith in
+        omega (arith, ap (λ (j : ℕ). stamp n t (order t j)) e, leb-true _ _ (sym (decides (i - lo) 0 (omega (arith, long))) ∙ P.0 (i - lo) 0 (omega arith) (omega arith)))) (cases_lt i lo);
+    high = λ i h l. ⊎_elim
+        (λ q.
+        let e : lo + (i - lo) ≡ i = omega arith in
+        omega (arith, ap (λ (j : ℕ). stamp n t (order t j)) e, leb-false _ _ (sym (decides (i - lo) 0 (omega (arith, long))) ∙ P.1 (i - lo) 0 (omega arith) (omega (arith, long)))))
+        (λ q. B.high i q l) (cases_lt i hi);
+  }
 
 pub returns : goal.returns
 returns c =
-    let v = c.loop-lo.invariant in
-    record { within = omega arith; low = v.low; high = λ i q l. v.high i (omega arith) l }
+    let n = c.args.n in
+    let t = c.args.t.now in
+    let T = c.requires.0 in
+    let B = c.requires.1 in
+    ranked n t c.args.x c.args.from c.args.to T B _ c.partition_point.ensures.bound
+    (IsPartitionPoint-from_clause (old n t c.args.x) _ _ c.partition_point.ensures.partitioned (parted n t c.args.x c.args.from c.args.to T B) (λ a r f k. search (rules, tests)))

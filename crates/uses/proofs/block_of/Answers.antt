@@ -4,9 +4,8 @@ use Rattle.context.proofs.Users.{user_live}
 use Rattle.uses.proofs.Choosing.{block_of_lem}
 use Rattle.uses.proofs.block_of.Goals as goal
 
-pub home_of-requires : goal.home_of-requires
-home_of-requires c = record { well = c.requires.sound_store.well; n_bound = place< c.requires.sound_store (op, c.user_of-o.result) (user_live c.requires.sound_store c.args.u c.user_of-o.result c.requires.live c.user_of-o.ensures) }
+pub home_of-requires-clause-n_bound : goal.home_of-requires-clause-n_bound
+home_of-requires-clause-n_bound c = place< c.requires.sound_store (op, c.user_of-o.result) (user_live c.requires.sound_store c.args.u c.user_of-o.result c.requires.live c.user_of-o.ensures)
 
 pub returns : goal.returns
-returns c =
-    block_of_lem c.args.u c.user_of-o.result c.home_of.result c.user_of-o.ensures c.home_of.ensures
+returns c = block_of_lem c.user_of-o.ensures c.home_of.ensures

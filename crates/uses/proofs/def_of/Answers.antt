@@ -1,19 +1,12 @@
 use native.Mathlib.Omega.{arith}
-use Rattle.uses.proofs.Looking.{value_found, no_block, b<, block_found}
+use Rattle.uses.proofs.Looking.{value_found, block<, block_found}
 use Rattle.uses.proofs.def_of.Goals as goal
 
-pub returns-then-sl-eq0 : goal.returns-then-sl-eq0
-returns-then-sl-eq0 c =
-    value_found c.requires c.args.sl c.args.number c.find.result c.find.ensures c.if-sl-eq0.true
-
-pub returns-in_default : goal.returns-in_default
-returns-in_default c =
-    no_block c.requires c.args.sl c.args.number c.find-a.result c.find-a.ensures c.in_default.is c.if-sl-eq0.false
-
 pub overflow_add-result : goal.overflow_add-result
-overflow_add-result c =
-    omega (arith, c.requires.well.caps, b< c.requires c.args.sl c.args.number c.in-At.b c.find-a.result c.find-a.ensures c.in-At.is)
+overflow_add-result c = omega (arith, c.requires.well.caps, block< c.requires c.args.number c.in_ok-look_up-in-Successor.field-0 c.in_ok-look_up-in-Successor.ensures)
 
-pub returns : goal.returns
-returns c =
-    block_found c.requires c.args.sl c.args.number c.in-At.b c.find-a.result c.find-a.ensures c.in-At.is c.if-sl-eq0.false
+pub returns-in-Operand : goal.returns-in-Operand
+returns-in-Operand c = value_found c.requires c.args.number c.in-Operand.is _ c.look_up.ensures
+
+pub returns-in_ok-look_up-in-Successor : goal.returns-in_ok-look_up-in-Successor
+returns-in_ok-look_up-in-Successor c = block_found c.requires c.args.number c.in_ok-look_up-in-Successor.field-0 c.in_ok-look_up-in-Successor.ensures c.in-Successor.is

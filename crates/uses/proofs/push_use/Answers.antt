@@ -1,43 +1,22 @@
 use mathlib.Core.Path.{refl}
-use mathlib.Core.List.{[], ◌∷◌}
-use native.Mathlib.Omega.{arith}
-use Rattle.edit.specs.Record.{push_use}
-use Rattle.rules.specs.Refusal.{definition_named}
-use Rattle.places.specs.Roles.{slot_by}
-use Rattle.uses.proofs.Looking.{slot_at, slot_none, def_at, def_none, names_push}
+use Rattle.rules.specs.Refusal.{named}
+use Rattle.context.proofs.Performing.{passed_on}
 use Rattle.uses.proofs.Growing.{lost_op, lost_def, can_bear, push_refused, pushed}
 use Rattle.uses.proofs.push_use.Goals as goal
 
-pub returns-in_default : goal.returns-in_default
-returns-in_default c =
-    lost_op c.requires (push_use (slot_by c.args.sl) c.args.number c.args.def) c.args.number (definition_named (slot_by c.args.sl) c.args.def ∷ []) (names_push (slot_by c.args.sl) c.args.number c.args.def) (slot_none c.args.l c.args.m.now (slot_by c.args.sl) c.args.number c.slot_of-a.result c.slot_of-a.ensures c.in_default.is)
+pub returns-in_err-s : goal.returns-in_err-s
+unfolding named
+returns-in_err-s c = passed_on _ c.from_residual.ensures (lost_op c.requires _ _ refl c.in_err-s.ensures)
 
-pub returns-in_default-b : goal.returns-in_default-b
-returns-in_default-b c =
-    lost_def c.requires (push_use (slot_by c.args.sl) c.args.number c.args.def) c.args.number (slot_by c.args.sl) c.args.def c.in-At.s c.missing.result (names_push (slot_by c.args.sl) c.args.number c.args.def) (slot_at c.args.l c.args.m.now (slot_by c.args.sl) c.args.number c.in-At.s c.slot_of-a.result c.slot_of-a.ensures c.in-At.is) (def_none c.args.l c.args.m.now (slot_by c.args.sl) c.args.def c.def_of-b.result c.def_of-b.ensures c.in_default-b.is) c.missing.ensures
+pub returns-in_err-d : goal.returns-in_err-d
+unfolding named
+returns-in_err-d c = passed_on _ c.from_residual-in_err-d.ensures (lost_def c.requires _ refl c.in_ok-s.ensures c.in_err-d.ensures)
 
-pub row_length-n-requires : goal.row_length-n-requires
-row_length-n-requires c =
-    let A = slot_at c.args.l c.args.m.now (slot_by c.args.sl) c.args.number c.in-At.s c.slot_of-a.result c.slot_of-a.ensures c.in-At.is in record { well = c.requires.well; k_bound = A.inside }
+pub returns-in_err-may_grow : goal.returns-in_err-may_grow
+returns-in_err-may_grow c = passed_on _ c.from_residual-in_err-may_grow.ensures (push_refused c.requires c.in_ok-s.ensures c.in_ok-d.ensures c.row_length-n.ensures c.in_err-may_grow.ensures)
 
-pub returns-then-c-ne0 : goal.returns-then-c-ne0
-returns-then-c-ne0 c =
-    let A = slot_at c.args.l c.args.m.now (slot_by c.args.sl) c.args.number c.in-At.s c.slot_of-a.result c.slot_of-a.ensures c.in-At.is in
-    let B = def_at c.args.l c.args.m.now (slot_by c.args.sl) c.args.def c.in-At-b.d c.def_of-b.result c.def_of-b.ensures c.in-At-b.is in
-    push_refused c.requires (slot_by c.args.sl) c.args.number c.args.def c.in-At.s c.in-At-b.d A B c.row_length-n.result c.row_length-n.ensures c.row_length-n.result c.grow_code-c.result c.grow_code-c.ensures refl c.if-c-ne0.true
-
-pub birth_use-requires : goal.birth_use-requires
-birth_use-requires c =
-    let A = slot_at c.args.l c.args.m.now (slot_by c.args.sl) c.args.number c.in-At.s c.slot_of-a.result c.slot_of-a.ensures c.in-At.is in
-    let B = def_at c.args.l c.args.m.now (slot_by c.args.sl) c.args.def c.in-At-b.d c.def_of-b.result c.def_of-b.ensures c.in-At-b.is in record { sound_store = c.requires; s_bound = (A.inside, B.inside); can_bear = can_bear c.requires (slot_by c.args.sl) c.args.number c.args.def c.in-At.s c.in-At-b.d A B c.row_length-n.result c.row_length-n.ensures c.row_length-n.result c.grow_code-c.result c.grow_code-c.ensures c.if-c-ne0.false }
-
-pub overflow_cast-result : goal.overflow_cast-result
-overflow_cast-result c =
-    let g = c.grow_code-c.ensures.short c.if-c-ne0.false in
-    omega (arith, g)
+pub birth_use-requires-clause-can_bear : goal.birth_use-requires-clause-can_bear
+birth_use-requires-clause-can_bear c = can_bear c.requires c.in_ok-s.ensures c.in_ok-d.ensures c.row_length-n.ensures c.in_ok-may_grow.ensures
 
 pub returns : goal.returns
-returns c =
-    let A = slot_at c.args.l c.args.m.now (slot_by c.args.sl) c.args.number c.in-At.s c.slot_of-a.result c.slot_of-a.ensures c.in-At.is in
-    let B = def_at c.args.l c.args.m.now (slot_by c.args.sl) c.args.def c.in-At-b.d c.def_of-b.result c.def_of-b.ensures c.in-At-b.is in
-    pushed c.requires (slot_by c.args.sl) c.args.number c.args.def c.in-At.s c.in-At-b.d A B c.row_length-n.result c.row_length-n.ensures c.row_length-n.result c.grow_code-c.result c.grow_code-c.ensures c.if-c-ne0.false c.birth_use.result c.birth_use.ensures refl
+returns c = pushed c.requires c.in_ok-s.ensures c.in_ok-d.ensures c.row_length-n.ensures c.in_ok-may_grow.ensures c.birth_use.ensures

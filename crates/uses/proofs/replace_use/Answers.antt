@@ -1,54 +1,31 @@
-use mathlib.Core.List.{[], ◌∷◌}
+use mathlib.Core.Path.{refl}
 use native.Mathlib.Omega.{arith}
-use Rattle.edit.specs.Record.{replace_use}
-use Rattle.rules.specs.Refusal.{definition_named}
-use Rattle.places.specs.Roles.{slot_by}
-use Rattle.uses.proofs.Looking.{slot_at, slot_none, def_at, def_none, names_replace}
+use Rattle.rules.specs.Refusal.{named}
+use Rattle.context.proofs.Performing.{passed_on}
 use Rattle.uses.proofs.Growing.{lost_op, lost_def}
 use Rattle.uses.proofs.Taking.{nth_live}
 use Rattle.uses.proofs.Replacing.{past_end, no_number, can_bear, replaced}
 use Rattle.uses.proofs.replace_use.Goals as goal
 
-pub returns-in_default : goal.returns-in_default
-returns-in_default c =
-    lost_op c.requires (replace_use (slot_by c.args.sl) c.args.number c.args.index c.args.def) c.args.number (definition_named (slot_by c.args.sl) c.args.def ∷ []) (names_replace (slot_by c.args.sl) c.args.number c.args.index c.args.def) (slot_none c.args.l c.args.m.now (slot_by c.args.sl) c.args.number c.slot_of-a.result c.slot_of-a.ensures c.in_default.is)
+pub returns-in_err-s : goal.returns-in_err-s
+unfolding named
+returns-in_err-s c = passed_on _ c.from_residual.ensures (lost_op c.requires _ _ refl c.in_err-s.ensures)
 
-pub returns-in_default-b : goal.returns-in_default-b
-returns-in_default-b c =
-    lost_def c.requires (replace_use (slot_by c.args.sl) c.args.number c.args.index c.args.def) c.args.number (slot_by c.args.sl) c.args.def c.in-At.s c.missing.result (names_replace (slot_by c.args.sl) c.args.number c.args.index c.args.def) (slot_at c.args.l c.args.m.now (slot_by c.args.sl) c.args.number c.in-At.s c.slot_of-a.result c.slot_of-a.ensures c.in-At.is) (def_none c.args.l c.args.m.now (slot_by c.args.sl) c.args.def c.def_of-b.result c.def_of-b.ensures c.in_default-b.is) c.missing.ensures
+pub returns-in_err-d : goal.returns-in_err-d
+unfolding named
+returns-in_err-d c = passed_on _ c.from_residual-in_err-d.ensures (lost_def c.requires _ refl c.in_ok-s.ensures c.in_err-d.ensures)
 
-pub row_length-n-requires : goal.row_length-n-requires
-row_length-n-requires c =
-    let A = slot_at c.args.l c.args.m.now (slot_by c.args.sl) c.args.number c.in-At.s c.slot_of-a.result c.slot_of-a.ensures c.in-At.is in record { well = c.requires.well; k_bound = A.inside }
+pub returns-then-row_length-i : goal.returns-then-row_length-i
+returns-then-row_length-i c = past_end c.requires c.in_ok-s.ensures c.in_ok-d.ensures c.row_length.ensures c.args.index c.if-row_length-i.true
 
-pub returns-then-n-i : goal.returns-then-n-i
-returns-then-n-i c =
-    let A = slot_at c.args.l c.args.m.now (slot_by c.args.sl) c.args.number c.in-At.s c.slot_of-a.result c.slot_of-a.ensures c.in-At.is in
-    let B = def_at c.args.l c.args.m.now (slot_by c.args.sl) c.args.def c.in-At-b.d c.def_of-b.result c.def_of-b.ensures c.in-At-b.is in
-    past_end c.requires (slot_by c.args.sl) c.args.number c.args.index c.args.def c.in-At.s c.in-At-b.d A B c.row_length-n.result c.row_length-n.ensures (omega (arith, c.if-n-i.true))
+pub returns-then-next_number : goal.returns-then-next_number
+returns-then-next_number c = no_number c.requires c.in_ok-s.ensures c.in_ok-d.ensures c.row_length.ensures c.args.index c.if-row_length-i.false c.next_number.ensures (omega (arith, c.if-next_number.true))
 
-pub returns-then-x-ge4294967295 : goal.returns-then-x-ge4294967295
-returns-then-x-ge4294967295 c =
-    let A = slot_at c.args.l c.args.m.now (slot_by c.args.sl) c.args.number c.in-At.s c.slot_of-a.result c.slot_of-a.ensures c.in-At.is in
-    let B = def_at c.args.l c.args.m.now (slot_by c.args.sl) c.args.def c.in-At-b.d c.def_of-b.result c.def_of-b.ensures c.in-At-b.is in
-    no_number c.requires (slot_by c.args.sl) c.args.number c.args.index c.args.def c.in-At.s c.in-At-b.d A B c.row_length-n.result c.row_length-n.ensures (omega (arith, c.if-n-i.false)) c.next_number-x.result c.next_number-x.ensures (omega (arith, c.if-x-ge4294967295.true))
+pub end_use-requires-clause-live : goal.end_use-requires-clause-live
+end_use-requires-clause-live c = nth_live c.requires c.nth_of-u.ensures
 
-pub nth_of-u-requires : goal.nth_of-u-requires
-nth_of-u-requires c =
-    let A = slot_at c.args.l c.args.m.now (slot_by c.args.sl) c.args.number c.in-At.s c.slot_of-a.result c.slot_of-a.ensures c.in-At.is in
-    let x = c.row_length-n.ensures.is in record { well = c.requires.well; k_bound = A.inside; i_in_bounds = omega (arith, x, c.if-n-i.false) }
-
-pub end_use-requires : goal.end_use-requires
-end_use-requires c = record { sound_store = c.requires; live = nth_live c.requires c.in-At.s c.args.index c.nth_of-u.result c.nth_of-u.ensures }
-
-pub birth_use-requires : goal.birth_use-requires
-birth_use-requires c =
-    let A = slot_at c.args.l c.args.m.now (slot_by c.args.sl) c.args.number c.in-At.s c.slot_of-a.result c.slot_of-a.ensures c.in-At.is in
-    let B = def_at c.args.l c.args.m.now (slot_by c.args.sl) c.args.def c.in-At-b.d c.def_of-b.result c.def_of-b.ensures c.in-At-b.is in
-    let E = c.end_use.ensures in record { sound_store = E.sound; s_bound = (A.inside, B.inside); can_bear = can_bear c.requires (slot_by c.args.sl) c.args.number c.args.index c.args.def c.in-At.s c.in-At-b.d A B c.row_length-n.result c.row_length-n.ensures (omega (arith, c.if-n-i.false)) c.next_number-x.result c.next_number-x.ensures (omega (arith, c.if-x-ge4294967295.false)) c.nth_of-u.result c.nth_of-u.ensures E }
+pub birth_use-requires-clause-can_bear : goal.birth_use-requires-clause-can_bear
+birth_use-requires-clause-can_bear c = can_bear c.requires c.in_ok-s.ensures c.in_ok-d.ensures c.row_length.ensures c.args.index c.if-row_length-i.false c.next_number.ensures (omega (arith, c.if-next_number.false, c.next_number.type_inv)) c.nth_of-u.ensures c.end_use.ensures
 
 pub returns : goal.returns
-returns c =
-    let A = slot_at c.args.l c.args.m.now (slot_by c.args.sl) c.args.number c.in-At.s c.slot_of-a.result c.slot_of-a.ensures c.in-At.is in
-    let B = def_at c.args.l c.args.m.now (slot_by c.args.sl) c.args.def c.in-At-b.d c.def_of-b.result c.def_of-b.ensures c.in-At-b.is in
-    replaced c.requires (slot_by c.args.sl) c.args.number c.args.index c.args.def c.in-At.s c.in-At-b.d A B c.row_length-n.result c.row_length-n.ensures (omega (arith, c.if-n-i.false)) c.next_number-x.result c.next_number-x.ensures (omega (arith, c.if-x-ge4294967295.false)) c.nth_of-u.result c.nth_of-u.ensures c.end_use.ensures c.birth_use.result c.birth_use.ensures
+returns c = replaced c.requires c.in_ok-s.ensures c.in_ok-d.ensures c.row_length.ensures c.args.index c.if-row_length-i.false c.next_number.ensures (omega (arith, c.if-next_number.false, c.next_number.type_inv)) c.nth_of-u.ensures c.end_use.ensures c.birth_use.ensures

@@ -14,20 +14,20 @@ decreases-drop_operation l = 3 * l.left
 abbrev pub decreases-drop_region : goal.decreases-drop_region
 decreases-drop_region l = 3 * l.left + 2
 
-abbrev pub invariant-drop_block-loop-k : goal.invariant-drop_block-loop-k
-invariant-drop_block-loop-k l = Dropping l.l (blk, l.b) l.initial.m l.m l.k (walked l.initial.n l.initial.t) (walked l.n l.t)
+abbrev pub invariant-drop_block-loop-next : goal.invariant-drop_block-loop-next
+invariant-drop_block-loop-next l = Dropping l.l (blk, l.b) l.initial.m l.m l.next (walked l.initial.n l.initial.t) (walked l.n l.t)
 
-abbrev pub decreases-drop_block-loop-k : goal.decreases-drop_block-loop-k
-decreases-drop_block-loop-k l = ahead l.l (blk, l.b) l.m l.k
+abbrev pub decreases-drop_block-loop-next : goal.decreases-drop_block-loop-next
+decreases-drop_block-loop-next l = ahead l.l (blk, l.b) l.m l.next
 
-abbrev pub invariant-drop_region-loop-k : goal.invariant-drop_region-loop-k
-invariant-drop_region-loop-k l = Dropping l.l (reg, l.r) l.initial.m l.m l.k (walked l.initial.n l.initial.t) (walked l.n l.t)
+abbrev pub invariant-drop_region-loop-next : goal.invariant-drop_region-loop-next
+invariant-drop_region-loop-next l = Dropping l.l (reg, l.r) l.initial.m l.m l.next (walked l.initial.n l.initial.t) (walked l.n l.t)
 
-abbrev pub decreases-drop_region-loop-k : goal.decreases-drop_region-loop-k
-decreases-drop_region-loop-k l = ahead l.l (reg, l.r) l.m l.k
+abbrev pub decreases-drop_region-loop-next : goal.decreases-drop_region-loop-next
+decreases-drop_region-loop-next l = ahead l.l (reg, l.r) l.m l.next
 
-abbrev pub invariant-drop_operation-loop-k : goal.invariant-drop_operation-loop-k
-invariant-drop_operation-loop-k l = Dropping l.l (op, l.o) l.initial.m l.m l.k (walked l.initial.n l.initial.t) (walked l.n l.t)
+abbrev pub invariant-drop_operation-loop-next : goal.invariant-drop_operation-loop-next
+invariant-drop_operation-loop-next l = Dropping l.l (op, l.o) l.initial.m l.m l.next (walked l.initial.n l.initial.t) (walked l.n l.t)
 
-abbrev pub decreases-drop_operation-loop-k : goal.decreases-drop_operation-loop-k
-decreases-drop_operation-loop-k l = ahead l.l (op, l.o) l.m l.k
+abbrev pub decreases-drop_operation-loop-next : goal.decreases-drop_operation-loop-next
+decreases-drop_operation-loop-next l = ahead l.l (op, l.o) l.m l.next

@@ -19,26 +19,26 @@ abbrev pub decreases-verify_region : goal.decreases-verify_region
 decreases-verify_region l =
     measure (state_of l.l l.m.now) (reg, l.r)
 
-abbrev pub invariant-verify_block-loop-k : goal.invariant-verify_block-loop-k
-invariant-verify_block-loop-k l =
-    Meeting l.l ops_in l.b l.m l.k (on_op (state_of l.l l.m))
+abbrev pub invariant-verify_block-loop-next : goal.invariant-verify_block-loop-next
+invariant-verify_block-loop-next l =
+    Meeting l.l ops_in l.b l.m l.next (on_op (state_of l.l l.m))
 
-abbrev pub decreases-verify_block-loop-k : goal.decreases-verify_block-loop-k
-decreases-verify_block-loop-k l =
-    ahead l.l ops_in l.b l.m l.k
+abbrev pub decreases-verify_block-loop-next : goal.decreases-verify_block-loop-next
+decreases-verify_block-loop-next l =
+    ahead l.l ops_in l.b l.m l.next
 
-abbrev pub invariant-verify_operation-loop-k : goal.invariant-verify_operation-loop-k
-invariant-verify_operation-loop-k l =
-    Meeting l.l regs l.o l.m l.k (place_region_verdict (state_of l.l l.m) (on_op (state_of l.l l.m)))
+abbrev pub invariant-verify_operation-loop-next : goal.invariant-verify_operation-loop-next
+invariant-verify_operation-loop-next l =
+    Meeting l.l regs l.o l.m l.next (place_region_verdict (state_of l.l l.m) (on_op (state_of l.l l.m)))
 
-abbrev pub decreases-verify_operation-loop-k : goal.decreases-verify_operation-loop-k
-decreases-verify_operation-loop-k l =
-    ahead l.l regs l.o l.m l.k
+abbrev pub decreases-verify_operation-loop-next : goal.decreases-verify_operation-loop-next
+decreases-verify_operation-loop-next l =
+    ahead l.l regs l.o l.m l.next
 
-abbrev pub invariant-verify_region-loop-k : goal.invariant-verify_region-loop-k
-invariant-verify_region-loop-k l =
-    Meeting l.l blocks_in l.r l.m l.k (place_block_verdict (state_of l.l l.m) (on_op (state_of l.l l.m)))
+abbrev pub invariant-verify_region-loop-next : goal.invariant-verify_region-loop-next
+invariant-verify_region-loop-next l =
+    Meeting l.l blocks_in l.r l.m l.next (place_block_verdict (state_of l.l l.m) (on_op (state_of l.l l.m)))
 
-abbrev pub decreases-verify_region-loop-k : goal.decreases-verify_region-loop-k
-decreases-verify_region-loop-k l =
-    ahead l.l blocks_in l.r l.m l.k
+abbrev pub decreases-verify_region-loop-next : goal.decreases-verify_region-loop-next
+decreases-verify_region-loop-next l =
+    ahead l.l blocks_in l.r l.m l.next

@@ -1,4 +1,4 @@
-use Rattle.walk.proofs.KindCodes.{deep_enough}
+use Rattle.walk.proofs.Deep.{deep_enough}
 use Rattle.walk.proofs.depth.Goals as goal
 
 pub returns : goal.returns

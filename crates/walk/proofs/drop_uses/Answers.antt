@@ -1,18 +1,16 @@
 use mathlib.Core.Path.{refl}
+use Rattle.edit.specs.Kinds.{thing_of}
+use Rattle.edit.specs.Record.{drop_uses}
 use Rattle.rules.specs.Refusal.{named}
-use Rattle.walk.proofs.Asked.{no_thing, may_drop, did_drop}
+use Rattle.std.proofs.lemmas.Result.{err_from_is_err_and}
+use Rattle.walk.proofs.Asked.{no_thing, found_at, did_drop}
 use Rattle.walk.proofs.drop_uses.Goals as goal
 
-pub returns-in_default : goal.returns-in_default
+pub returns-in_err-p : goal.returns-in_err-p
 unfolding named
-returns-in_default c =
-    no_thing c.requires.sound_store _ c.args.k c.args.number c.requires.k_bound c.find-f.ensures c.in_default.is refl
-
-pub drop_tallied-t-requires : goal.drop_tallied-t-requires
-drop_tallied-t-requires c =
-    let asked = may_drop c.requires.sound_store c.args.k c.args.number c.in-At.p c.requires.k_bound c.find-f.ensures c.in-At.is in
-    record { k_bound = asked.0; sound_store = asked.1 }
+returns-in_err-p c =
+    let p = err_from_is_err_and c.from_residual.result c.from_residual.ensures.1 in
+    rw (p.1, p.2) (no_thing c.requires (drop_uses (thing_of c.args.k c.args.number)) c.args.k c.args.number c.from.ensures c.in_err-p.ensures refl)
 
 pub returns : goal.returns
-returns c =
-    did_drop c.requires.sound_store c.args.k c.args.number c.in-At.p c.requires.k_bound c.find-f.ensures c.in-At.is c.drop_tallied-t.ensures
+returns c = did_drop c.requires c.args.k c.args.number c.in_ok-p.p (found_at c.requires c.args.k c.args.number c.in_ok-p.p c.from.ensures c.in_ok-p.ensures) c.drop_tallied-t.ensures

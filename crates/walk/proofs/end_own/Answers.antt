@@ -1,28 +1,23 @@
 use native.Mathlib.Omega.{arith}
-use Rattle.walk.proofs.KindCodes.{third}
-use Rattle.walk.proofs.EndValues.{can_results, can_arguments, own_results, own_arguments, own_nothing}
+use Rattle.walk.proofs.EraseWalk.{erase_as}
+use Rattle.walk.proofs.EndValues.{can_results, own_results, can_arguments, own_arguments, own_nothing}
 use Rattle.walk.proofs.end_own.Goals as goal
 
 pub end_values-requires : goal.end_values-requires
-end_values-requires c =
-    can_results c.args.k c.args.p c.requires.can_erase c.if-k-eq0.true
+end_values-requires c = can_results c.args.p (erase_as c.in-Operation.is c.requires)
 
-pub returns-then-k-eq0 : goal.returns-then-k-eq0
-returns-then-k-eq0 c =
-    own_results c.args.k c.args.p c.requires.can_erase c.if-k-eq0.true c.end_values.ensures
+pub returns-in-Operation : goal.returns-in-Operation
+returns-in-Operation c = rw c.in-Operation.is (own_results c.args.p (erase_as c.in-Operation.is c.requires) c.end_values.ensures)
 
 pub overflow_add-l : goal.overflow_add-l
 overflow_add-l c =
-    omega (arith, (can_arguments c.args.k c.args.p c.requires.can_erase c.if-k-eq1.true).row, c.requires.can_erase.store.well.caps.ops, c.requires.can_erase.store.well.caps.blocks)
+    omega (arith, (can_arguments c.args.p (erase_as c.in-Block.is c.requires)).row, c.requires.store.well.caps.ops, c.requires.store.well.caps.blocks)
 
-pub end_values-requires-then-k-eq1 : goal.end_values-requires-then-k-eq1
-end_values-requires-then-k-eq1 c =
-    can_arguments c.args.k c.args.p c.requires.can_erase c.if-k-eq1.true
+pub end_values-requires-in-Block : goal.end_values-requires-in-Block
+end_values-requires-in-Block c = can_arguments c.args.p (erase_as c.in-Block.is c.requires)
 
-pub returns-then-k-eq1 : goal.returns-then-k-eq1
-returns-then-k-eq1 c =
-    own_arguments c.args.k c.args.p c.requires.can_erase c.if-k-eq1.true c.end_values-then-k-eq1.ensures
+pub returns-in-Block : goal.returns-in-Block
+returns-in-Block c = rw c.in-Block.is (own_arguments c.args.p (erase_as c.in-Block.is c.requires) c.end_values-in-Block.ensures)
 
-pub returns : goal.returns
-returns c =
-    own_nothing c.args.k c.args.p c.requires.can_erase (third c.args.k c.requires.k_bound c.if-k-eq0.false c.if-k-eq1.false)
+pub returns-in-Region : goal.returns-in-Region
+returns-in-Region c = rw c.in-Region.is (own_nothing c.args.p (erase_as c.in-Region.is c.requires))

@@ -1,18 +1,14 @@
+use Rattle.std.proofs.lemmas.Result.{err_from_is_err_and}
 use Rattle.walk.proofs.EraseEdit.{refused_answer, can_erase, done_answer}
 use Rattle.walk.proofs.erase_found.Goals as goal
 
-pub erase_refusal-c-requires : goal.erase_refusal-c-requires
-erase_refusal-c-requires c =
-    c.requires
-
-pub returns-then-c-ne0 : goal.returns-then-c-ne0
-returns-then-c-ne0 c = record { erase_answer = refused_answer c.erase_refusal-c.ensures c.if-c-ne0.true; scratch = c.erase_refusal-c.ensures.scratch }
-
-pub drop_tallied-t-requires : goal.drop_tallied-t-requires
-drop_tallied-t-requires c = record { k_bound = c.requires.0.kind; sound_store = (c.requires.0.store, c.requires.0.live) }
+pub returns-in_err-test_erase-clause-erase_answer : goal.returns-in_err-test_erase-clause-erase_answer
+returns-in_err-test_erase-clause-erase_answer c =
+    let p = err_from_is_err_and c.from_residual.result c.from_residual.ensures.1 in
+    rw (p.1, p.2) (refused_answer c.in_err-test_erase.ensures)
 
 pub erase_inside-requires : goal.erase_inside-requires
-erase_inside-requires c = record { k_bound = c.requires.0.kind; can_erase = can_erase c.args.k c.args.p c.requires.0 c.erase_refusal-c.ensures c.if-c-ne0.false c.drop_tallied-t.ensures }
+erase_inside-requires c = can_erase c.args.k c.args.p c.requires.0 c.in_ok-test_erase.ensures c.drop_tallied-t.ensures
 
-pub returns : goal.returns
-returns c = record { erase_answer = done_answer c.args.k c.args.p c.requires.0 c.erase_refusal-c.ensures c.if-c-ne0.false c.drop_tallied-t.ensures c.erase_inside.ensures; scratch = c.erase_refusal-c.ensures.scratch }
+pub returns-clause-erase_answer : goal.returns-clause-erase_answer
+returns-clause-erase_answer c = done_answer c.args.k c.args.p c.requires.0 c.in_ok-test_erase.ensures c.drop_tallied-t.ensures c.erase_inside.ensures

@@ -1,34 +1,35 @@
 use mathlib.Core.Path.{refl}
-use native.Mathlib.Omega.{arith}
-use Rattle.context.specs.Memory.{state_of}
-use Rattle.context.proofs.Places.{place<}
+use Rattle.edit.specs.Record.{erase_region}
+use Rattle.edit.specs.declared.Nested.TheVariants.{Operation}
 use Rattle.places.specs.Store.{op}
 use Rattle.rules.specs.Refusal.{named}
 use Rattle.rules.specs.Refusal as R
-use Rattle.walk.proofs.Asked.{live_at, no_thing}
+use Rattle.std.proofs.lemmas.Result.{err_from_is_err_and}
+use Rattle.context.proofs.Places.{place<}
+use Rattle.walk.proofs.Asked.{no_thing}
 use Rattle.walk.proofs.EraseEdit.{no_index, region_live, did_erase_region}
 use Rattle.walk.proofs.erase_region.Goals as goal
 
-pub find-f-requires : goal.find-f-requires
-find-f-requires c =
-    c.requires.sound_store.well
-
-pub returns-in_default : goal.returns-in_default
+pub returns-in_err-o-clause-performed : goal.returns-in_err-o-clause-performed
 unfolding named R.thing_named
-returns-in_default c = record { performed = no_thing c.requires.sound_store _ 0 c.args.number (omega arith) c.find-f.ensures c.in_default.is refl; scratch_2 = c.requires.scratch }
+returns-in_err-o-clause-performed c =
+    let p = err_from_is_err_and c.from_residual.result c.from_residual.ensures.1 in
+    rw (p.1, p.2) (no_thing c.requires.sound_store (erase_region c.args.number c.args.index) Operation c.args.number refl c.in_err-o.ensures refl)
 
-pub row_length-n-requires : goal.row_length-n-requires
-row_length-n-requires c = record { well = c.requires.sound_store.well; k_bound = place< c.requires.sound_store (op, c.in-At.o) (live_at (state_of c.args.l c.args.m.now) op c.args.number c.in-At.o c.find-f.ensures c.in-At.is).0 }
+pub row_length-requires-clause-k_bound : goal.row_length-requires-clause-k_bound
+row_length-requires-clause-k_bound c = place< c.requires.sound_store (op, c.in_ok-o.o) c.in_ok-o.ensures.0
 
-pub returns-then-n-index : goal.returns-then-n-index
-returns-then-n-index c = record { performed = no_index c.requires.sound_store c.in-At.o c.args.number c.args.index (live_at (state_of c.args.l c.args.m.now) op c.args.number c.in-At.o c.find-f.ensures c.in-At.is).0 (live_at (state_of c.args.l c.args.m.now) op c.args.number c.in-At.o c.find-f.ensures c.in-At.is).1 c.row_length-n.result c.row_length-n.ensures c.if-n-index.true; scratch_2 = c.requires.scratch }
+pub returns-then-row_length-index-clause-performed : goal.returns-then-row_length-index-clause-performed
+returns-then-row_length-index-clause-performed c =
+    no_index c.requires.sound_store c.in_ok-o.o c.args.number c.args.index c.in_ok-o.ensures.0 c.in_ok-o.ensures.1 c.row_length.result c.row_length.ensures c.if-row_length-index.true
 
-pub nth_of-p-requires : goal.nth_of-p-requires
-nth_of-p-requires c = record { well = c.requires.sound_store.well; k_bound = place< c.requires.sound_store (op, c.in-At.o) (live_at (state_of c.args.l c.args.m.now) op c.args.number c.in-At.o c.find-f.ensures c.in-At.is).0; i_in_bounds = omega (arith, c.row_length-n.ensures.is, c.if-n-index.false) }
+pub nth_of-p-requires-clause-k_bound : goal.nth_of-p-requires-clause-k_bound
+nth_of-p-requires-clause-k_bound c = place< c.requires.sound_store (op, c.in_ok-o.o) c.in_ok-o.ensures.0
 
 pub erase_found-requires : goal.erase_found-requires
 erase_found-requires c =
-    (record { store = c.requires.sound_store; kind = omega arith; live = region_live c.requires.sound_store c.in-At.o c.args.number c.args.index (live_at (state_of c.args.l c.args.m.now) op c.args.number c.in-At.o c.find-f.ensures c.in-At.is).0 (live_at (state_of c.args.l c.args.m.now) op c.args.number c.in-At.o c.find-f.ensures c.in-At.is).1 c.nth_of-p.result c.nth_of-p.ensures; long = c.requires.scratch.long }, c.requires.scratch.zeros)
+    (record { store = c.requires.sound_store; live = region_live c.requires.sound_store c.in_ok-o.o c.args.number c.args.index c.in_ok-o.ensures.0 c.in_ok-o.ensures.1 c.nth_of-p.result c.nth_of-p.ensures; long = c.requires.scratch.long }, c.requires.scratch.zeros)
 
-pub returns : goal.returns
-returns c = record { performed = did_erase_region c.requires.sound_store c.in-At.o c.args.number c.args.index (live_at (state_of c.args.l c.args.m.now) op c.args.number c.in-At.o c.find-f.ensures c.in-At.is).0 (live_at (state_of c.args.l c.args.m.now) op c.args.number c.in-At.o c.find-f.ensures c.in-At.is).1 _ _ c.row_length-n.result c.nth_of-p.result c.row_length-n.ensures c.if-n-index.false c.nth_of-p.ensures c.erase_found.ensures.erase_answer; scratch_2 = c.erase_found.ensures.scratch }
+pub returns-clause-performed : goal.returns-clause-performed
+returns-clause-performed c =
+    did_erase_region c.requires.sound_store c.in_ok-o.o c.args.number c.args.index c.in_ok-o.ensures.0 c.in_ok-o.ensures.1 _ _ c.row_length.result c.nth_of-p.result c.row_length.ensures c.if-row_length-index.false c.nth_of-p.ensures c.erase_found.ensures.erase_answer

@@ -1,39 +1,39 @@
-use mathlib.Core.Bool.{not}
-use mathlib.Core.Path.{ap, sym, ◌∙◌}
+use mathlib.Core.Path.{sym, ◌∙◌}
+use Rattle.std.proofs.lemmas.Result.{err_from_is_err_and}
 use Rattle.places.specs.Store.{blk}
 use Rattle.context.proofs.Places.{place<}
-use Rattle.edit.specs.Answer.{numbers_of}
-use Rattle.walk.proofs.JudgeLaws.{block_in_live, alone_1, alone_2, alone_18, alone_4, alone_0}
-use Rattle.walk.proofs.Search.{nay, yea, nothing}
+use Rattle.walk.specs.Judge.{fault_reply}
+use Rattle.walk.proofs.JudgeLaws.{was_some, was_none, block_in_live, alone_1, alone_2, alone_18, alone_4, alone_0}
 use Rattle.walk.proofs.judge_block.Goals as goal
 
-pub home_of-r-requires : goal.home_of-r-requires
-home_of-r-requires c = record { well = c.requires.0.well; n_bound = place< c.requires.0 (blk, c.args.b) c.requires.1 }
+pub home_of-requires-clause-n_bound : goal.home_of-requires-clause-n_bound
+home_of-requires-clause-n_bound c = place< c.requires.0 (blk, c.args.b) c.requires.1
 
-pub returns-then-r-eq0 : goal.returns-then-r-eq0
-unfolding numbers_of
-returns-then-r-eq0 c =
-    record { is = alone_1 c.requires.0 c.args.b c.home_of-r.result c.number_of-n.result c.home_of-r.ensures c.if-r-eq0.true c.number_of-n.ensures }
+pub returns-in_err-r : goal.returns-in_err-r
+unfolding fault_reply
+returns-in_err-r c =
+    let p = err_from_is_err_and c.from_residual.result c.from_residual.ensures.1 in
+    let w = was_none _ (sym c.ok_or.ensures.value ∙ c.in_err-r.was) in
+    rw (p.1, p.2 ∙ w.1) (record { is = alone_1 c.requires.0 c.args.b c.number_of-n.result c.home_of.ensures w.0 c.number_of-n.ensures })
 
-pub ended-g-requires : goal.ended-g-requires
-ended-g-requires c =
-    (c.requires.0, c.requires.1, block_in_live c.requires.0 c.args.b c.home_of-r.result c.home_of-r.ensures c.if-r-eq0.false)
+pub ended-requires : goal.ended-requires
+ended-requires c = (c.requires.0, c.requires.1, block_in_live c.requires.0 c.args.b c.home_of.ensures (was_some _ (sym c.ok_or.ensures.value ∙ c.in_ok-r.was)))
 
-pub returns-then-not-g : goal.returns-then-not-g
-unfolding numbers_of
-returns-then-not-g c =
-    record { is = alone_2 c.requires.0 c.args.b c.home_of-r.result c.number_of-n.result c.home_of-r.ensures c.if-r-eq0.false c.number_of-n.ensures (sym c.ended-g.ensures ∙ nay c.ended-g.result (ap not c.if-not-g.true)) }
+pub returns-then-not-ended : goal.returns-then-not-ended
+unfolding fault_reply
+returns-then-not-ended c =
+    record { is = alone_2 c.requires.0 c.args.b c.number_of-n.result c.home_of.ensures (was_some _ (sym c.ok_or.ensures.value ∙ c.in_ok-r.was)) c.number_of-n.ensures (sym c.if-not-ended.ensures) }
 
-pub returns-then-s : goal.returns-then-s
-unfolding numbers_of
-returns-then-s c =
-    record { is = alone_18 c.requires.0 c.args.b c.home_of-r.result c.home_of-r.ensures c.if-r-eq0.false (sym c.ended-g.ensures ∙ yea c.ended-g.result (ap not c.if-not-g.false)) (sym c.stray_user-s.ensures ∙ c.if-s.true) }
+pub returns-then-stray_user : goal.returns-then-stray_user
+unfolding fault_reply
+returns-then-stray_user c =
+    record { is = alone_18 c.requires.0 c.args.b c.home_of.ensures (was_some _ (sym c.ok_or.ensures.value ∙ c.in_ok-r.was)) (sym c.if-not-ended.ensures) (sym c.if-stray_user.ensures) }
 
-pub returns-then-p : goal.returns-then-p
-unfolding numbers_of
-returns-then-p c =
-    record { is = alone_4 c.requires.0 c.args.b c.home_of-r.result c.number_of-n.result c.home_of-r.ensures c.if-r-eq0.false c.number_of-n.ensures (sym c.ended-g.ensures ∙ yea c.ended-g.result (ap not c.if-not-g.false)) (sym c.stray_user-s.ensures ∙ c.if-s.false) (sym c.lost_pred-p.ensures ∙ c.if-p.true) }
+pub returns-then-lost_pred : goal.returns-then-lost_pred
+unfolding fault_reply
+returns-then-lost_pred c =
+    record { is = alone_4 c.requires.0 c.args.b c.number_of-n.result c.home_of.ensures (was_some _ (sym c.ok_or.ensures.value ∙ c.in_ok-r.was)) c.number_of-n.ensures (sym c.if-not-ended.ensures) (sym c.if-stray_user.ensures) (sym c.if-lost_pred.ensures) }
 
 pub returns : goal.returns
 returns c =
-    record { is = sym nothing ∙ alone_0 c.requires.0 c.args.b c.home_of-r.result c.home_of-r.ensures c.if-r-eq0.false (sym c.ended-g.ensures ∙ yea c.ended-g.result (ap not c.if-not-g.false)) (sym c.stray_user-s.ensures ∙ c.if-s.false) (sym c.lost_pred-p.ensures ∙ c.if-p.false) }
+    record { is = alone_0 c.requires.0 c.args.b c.home_of.ensures (was_some _ (sym c.ok_or.ensures.value ∙ c.in_ok-r.was)) (sym c.if-not-ended.ensures) (sym c.if-stray_user.ensures) (sym c.if-lost_pred.ensures) }

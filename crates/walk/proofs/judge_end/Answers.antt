@@ -1,24 +1,21 @@
-use mathlib.Core.Bool.{not}
-use mathlib.Core.Path.{ap, sym, ◌∙◌}
+use mathlib.Core.Path.{sym}
 use Rattle.places.specs.Store.{op}
 use Rattle.context.proofs.Places.{place<}
 use Rattle.walk.proofs.JudgeLaws.{no_end, good_end, early_end}
-use Rattle.walk.proofs.Search.{nay, yea, nothing}
-use Rattle.edit.specs.Answer.{numbers_of}
+use Rattle.walk.specs.Judge.{fault_reply}
 use Rattle.walk.proofs.judge_end.Goals as goal
+use Rattle.walk.proofs.judge_end.Goals.{else-is_terminator-via-then-is_terminator+else-is_some, else-is_terminator-via-else-is_terminator}
 
-pub returns-then-not-t : goal.returns-then-not-t
-returns-then-not-t c =
-    sym nothing ∙ no_end c.requires.0 c.args.o (sym c.is_terminator-t.ensures ∙ nay c.is_terminator-t.result (ap not c.if-not-t.true))
+pub next_of-requires-clause-n_bound : goal.next_of-requires-clause-n_bound
+next_of-requires-clause-n_bound c = place< c.requires.0 (op, c.args.o) c.requires.1
 
-pub next_of-k-requires : goal.next_of-k-requires
-next_of-k-requires c = record { well = c.requires.0.well; n_bound = place< c.requires.0 (op, c.args.o) c.requires.1 }
-
-pub returns-then-k-eq0 : goal.returns-then-k-eq0
-returns-then-k-eq0 c =
-    sym nothing ∙ good_end c.requires.0 c.args.o c.next_of-k.result c.next_of-k.ensures (sym c.is_terminator-t.ensures ∙ yea c.is_terminator-t.result (ap not c.if-not-t.false)) c.if-k-eq0.true
+pub returns-then-is_some : goal.returns-then-is_some
+unfolding fault_reply
+returns-then-is_some c = early_end c.requires.0 c.args.o c.number_of.result c.next_of.ensures (sym c.if-is_terminator.ensures) (sym c.if-is_some.ensures) c.number_of.ensures
 
 pub returns : goal.returns
-unfolding numbers_of
 returns c =
-    early_end c.requires.0 c.args.o c.next_of-k.result c.number_of-n.result c.next_of-k.ensures (sym c.is_terminator-t.ensures ∙ yea c.is_terminator-t.result (ap not c.if-not-t.false)) c.if-k-eq0.false c.number_of-n.ensures
+    elim c.else-is_terminator.branch [
+      | else-is_terminator-via-then-is_terminator+else-is_some w ↦ good_end c.requires.0 c.args.o w.next_of.ensures (sym w.if-is_terminator.ensures) (sym w.if-is_some.ensures)
+      | else-is_terminator-via-else-is_terminator w ↦ no_end c.requires.0 c.args.o (sym w.if-is_terminator.ensures)
+    ]

@@ -1,30 +1,24 @@
-use mathlib.Core.Bool.{not}
-use mathlib.Core.Path.{ap, sym, ◌∙◌}
-use Rattle.places.specs.Store.{blk}
+use mathlib.Core.Path.{◌≡◌, ◌∙◌}
+use mathlib.Core.Bool.{◌&&◌}
+use Prim.Native.Nat.{ℕ}
+use Rattle.std.proofs.Common.{rules, Some}
+use Rattle.places.specs.Store.{op, blk, Live}
+use Rattle.places.specs.Verdict.{terminates, place_names_block}
 use Rattle.context.proofs.Places.{place<}
-use Rattle.walk.proofs.JudgeLaws.{last_some, leads_empty, leads_no, leads_yes}
-use Rattle.walk.proofs.Search.{nay, yea}
+use Rattle.context.specs.Memory.{state_of}
+use Rattle.walk.proofs.JudgeLaws.{tested, last_some, leads_empty, leads_last}
 use Rattle.walk.proofs.leads_to.Goals as goal
 
-pub last_of-k-requires : goal.last_of-k-requires
-last_of-k-requires c = record { well = c.requires.0.well; k_bound = place< c.requires.0 (blk, c.args.p) c.requires.2 }
+pub last_of-requires-clause-k_bound : goal.last_of-requires-clause-k_bound
+last_of-requires-clause-k_bound c = place< c.requires.0 (blk, c.args.p) c.requires.2
 
-pub returns-then-k-eq0 : goal.returns-then-k-eq0
-returns-then-k-eq0 c =
-    leads_empty c.requires.0 c.args.b c.args.p c.last_of-k.result c.last_of-k.ensures c.if-k-eq0.true
-
-pub is_terminator-t-requires : goal.is_terminator-t-requires
-is_terminator-t-requires c =
-    (c.requires.0, (last_some c.requires.0 c.args.p c.last_of-k.result c.last_of-k.ensures c.if-k-eq0.false).1)
-
-pub returns-then-not-t : goal.returns-then-not-t
-returns-then-not-t c =
-    leads_no c.requires.0 c.args.b c.args.p c.last_of-k.result c.last_of-k.ensures c.if-k-eq0.false (sym c.is_terminator-t.ensures ∙ nay c.is_terminator-t.result (ap not c.if-not-t.true))
-
-pub names_block-requires : goal.names_block-requires
-names_block-requires c =
-    (c.requires.0, c.requires.1, (last_some c.requires.0 c.args.p c.last_of-k.result c.last_of-k.ensures c.if-k-eq0.false).1)
+pub is_some_and-requires : goal.is_some_and-requires
+is_some_and-requires c =
+    let lives : (o : ℕ) → c.last_of.result ≡ Some o → Live (state_of c.args.l c.args.m.now) (op, o) = λ o e. (last_some c.requires.0 c.args.p c.last_of.ensures e).1 in
+    search (c.requires, lives, rules)
 
 pub returns : goal.returns
 returns c =
-    c.names_block.ensures ∙ leads_yes c.requires.0 c.args.b c.args.p c.last_of-k.result c.last_of-k.ensures c.if-k-eq0.false (sym c.is_terminator-t.ensures ∙ yea c.is_terminator-t.result (ap not c.if-not-t.false))
+    tested c.last_of.result c.is_some_and.ensures
+    (leads_empty c.requires.0 c.args.b c.args.p c.last_of.ensures)
+    (λ o e q. let t : c.is_some_and.result ≡ (terminates (state_of c.args.l c.args.m.now) (op, o) && place_names_block (state_of c.args.l c.args.m.now) (blk, c.args.b) (op, o)) = search (q, rules) in t ∙ leads_last c.requires.0 c.args.b c.args.p c.last_of.ensures e)

@@ -1,24 +1,24 @@
-use mathlib.Core.Path.{sym, ◌∙◌}
-use Rattle.places.specs.Store.{op}
+use mathlib.Core.Path.{◌≡◌, ◌∙◌}
+use Rattle.std.proofs.Common.{rules, Some}
+use Prim.Native.Nat.{ℕ}
+use Rattle.places.specs.Store.{op, blk, Live}
+use Rattle.places.specs.Verdict.{place_leads_to}
+use Rattle.context.specs.Memory.{state_of}
 use Rattle.context.proofs.Places.{place<}
 use Rattle.context.proofs.Users.{user_live}
-use Rattle.walk.proofs.JudgeLaws.{op_in_live, leads_none, leads_some}
+use Rattle.walk.proofs.JudgeLaws.{tested, op_in_live, leads_none, leads_some}
 use Rattle.walk.proofs.user_leads.Goals as goal
 
-pub user_of-o-requires : goal.user_of-o-requires
-user_of-o-requires c = record { sound_store = c.requires.0; live = c.requires.2 }
+pub home_of-requires-clause-n_bound : goal.home_of-requires-clause-n_bound
+home_of-requires-clause-n_bound c = place< c.requires.0 (op, c.user_of-o.result) (user_live c.requires.0 c.args.u c.user_of-o.result c.requires.2 c.user_of-o.ensures)
 
-pub home_of-h-requires : goal.home_of-h-requires
-home_of-h-requires c = record { well = c.requires.0.well; n_bound = place< c.requires.0 (op, c.user_of-o.result) (user_live c.requires.0 c.args.u c.user_of-o.result c.requires.2 c.user_of-o.ensures) }
-
-pub returns-then-h-eq0 : goal.returns-then-h-eq0
-returns-then-h-eq0 c =
-    sym (leads_none c.requires.0 c.args.b c.args.u c.user_of-o.result c.home_of-h.result c.user_of-o.ensures c.home_of-h.ensures c.if-h-eq0.true)
-
-pub leads_to-requires : goal.leads_to-requires
-leads_to-requires c =
-    (c.requires.0, c.requires.1, op_in_live c.requires.0 c.user_of-o.result c.home_of-h.result c.home_of-h.ensures c.if-h-eq0.false)
+pub is_some_and-requires : goal.is_some_and-requires
+is_some_and-requires c =
+    let lives : (p : ℕ) → c.home_of.result ≡ Some p → Live (state_of c.args.l c.args.m.now) (blk, p) = λ p e. op_in_live c.requires.0 c.user_of-o.result c.home_of.ensures e in
+    search (c.requires, lives, rules)
 
 pub returns : goal.returns
 returns c =
-    c.leads_to.ensures ∙ sym (leads_some c.requires.0 c.args.b c.args.u c.user_of-o.result c.home_of-h.result c.user_of-o.ensures c.home_of-h.ensures c.if-h-eq0.false)
+    tested c.home_of.result c.is_some_and.ensures
+    (leads_none c.requires.0 c.args.b c.user_of-o.ensures c.home_of.ensures)
+    (λ p e q. let t : c.is_some_and.result ≡ place_leads_to (state_of c.args.l c.args.m.now) (blk, c.args.b) (blk, p) = search (q, rules) in t ∙ leads_some c.requires.0 c.args.b c.user_of-o.ensures c.home_of.ensures e)

@@ -1,37 +1,20 @@
-use mathlib.Core.Path.{sym, ◌∙◌}
+use mathlib.Core.Path.{◌≡◌, ◌∙◌}
 use native.Mathlib.Omega.{arith}
-use Prim.Native.Nat.{◌-◌}
-use Rattle.context.proofs.Cursor.{here, next_less}
-use Rattle.walk.specs.Tests.{marks_in}
-use Rattle.context.proofs.Search.{searching, hit, miss, over}
+use Prim.Native.Nat.{ℕ, ◌+◌, ◌<◌}
+use Rattle.std.proofs.Common.{rules}
+use Rattle.places.specs.Store.{val, use_sets, Live}
+use Rattle.context.specs.Memory.{con, state_of}
+use Rattle.context.proofs.Places.{place<}
+use Rattle.walk.specs.Tests.{stray_set, stray_value, marks_in}
 use Rattle.walk.proofs.Strays.{value_set}
 use Rattle.walk.proofs.values_stray.Goals as goal
 
-pub first_of-k-requires : goal.first_of-k-requires
-first_of-k-requires c = record { well = c.requires.sound_store.0.well; k_bound = c.requires.c_bound }
-
-pub loop-k-init : goal.loop-k-init
-loop-k-init c =
-    searching _ c.first_of-k.result c.first_of-k.ensures
-
-pub set_strays-g-requires : goal.set_strays-g-requires
-set_strays-g-requires c = record { sound_store = c.requires.sound_store; d_bound = omega (arith, (here c.requires.sound_store.0 c.loop-k.invariant.at c.loop-k-test.true).place) }
-
-pub returns-then-g : goal.returns-then-g
-returns-then-g c =
-    hit c.requires.sound_store.0 c.loop-k.invariant c.loop-k-test.true (sym (value_set c.requires.sound_store.0 (marks_in c.args.s.now) (c.loop-k.k - 1) (here c.requires.sound_store.0 c.loop-k.invariant.at c.loop-k-test.true).place) ∙ sym c.set_strays-g.ensures ∙ c.if-g.true)
-
-pub next_of-k-requires : goal.next_of-k-requires
-next_of-k-requires c = record { well = c.requires.sound_store.0.well; n_bound = (here c.requires.sound_store.0 c.loop-k.invariant.at c.loop-k-test.true).place }
-
-pub loop-k-smaller : goal.loop-k-smaller
-loop-k-smaller c =
-    next_less c.requires.sound_store.0 c.loop-k.invariant.at c.loop-k-test.true c.next_of-k.result c.next_of-k.ensures
-
-pub loop-k-preserved : goal.loop-k-preserved
-loop-k-preserved c =
-    miss c.requires.sound_store.0 c.loop-k.invariant c.loop-k-test.true (sym (value_set c.requires.sound_store.0 (marks_in c.args.s.now) (c.loop-k.k - 1) (here c.requires.sound_store.0 c.loop-k.invariant.at c.loop-k-test.true).place) ∙ sym c.set_strays-g.ensures ∙ c.if-g.false) c.next_of-k.result c.next_of-k.ensures
+pub any_of-requires-clause-callable : goal.any_of-requires-clause-callable
+any_of-requires-clause-callable c =
+    let inside : (q : ℕ) → Live (state_of c.args.l c.args.m.now) (val, q) → q < c.args.l.values + c.args.l.blocks = λ q v. omega (arith, place< c.requires.sound_store.0 (val, q) v) in
+    search (c.requires.sound_store, inside, rules)
 
 pub returns : goal.returns
 returns c =
-    over c.requires.sound_store.0 c.loop-k.invariant c.loop-k-test.false
+    c.any_of.ensures (stray_value (state_of c.args.l c.args.m.now) (marks_in c.args.s.now))
+    (λ q v r w. let t : r ≡ stray_set (state_of c.args.l c.args.m.now) (marks_in c.args.s.now) (con c.args.l use_sets q) = search (w, rules) in t ∙ value_set c.requires.sound_store.0 (marks_in c.args.s.now) q (place< c.requires.sound_store.0 (val, q) v))

@@ -1,35 +1,26 @@
-use mathlib.Core.Path.{refl}
+use mathlib.Core.Path.{refl, ◌∙◌}
+use Rattle.edit.specs.Kinds.{thing_of}
+use Rattle.edit.specs.Record.{verdict}
 use Rattle.rules.specs.Refusal.{named}
-use Rattle.walk.proofs.KindCodes.{third}
-use Rattle.walk.proofs.Asked.{no_thing}
-use Rattle.walk.proofs.VerdictEdit.{may_judge, judged_by}
+use Rattle.std.proofs.lemmas.Result.{err_from_is_err_and}
+use Rattle.walk.proofs.Asked.{no_thing, found_at}
+use Rattle.walk.proofs.VerdictEdit.{did_judge}
 use Rattle.walk.proofs.verdict.Goals as goal
 
-pub returns-in_default : goal.returns-in_default
+pub returns-in_err-p : goal.returns-in_err-p
 unfolding named
-returns-in_default c =
-    no_thing c.requires.sound_store _ c.args.k c.args.number c.requires.k_bound c.find-f.ensures c.in_default.is refl
+returns-in_err-p c =
+    let p = err_from_is_err_and c.from_residual.result c.from_residual.ensures.1 in
+    rw (p.1, p.2) (no_thing c.requires (verdict (thing_of c.args.k c.args.number)) c.args.k c.args.number c.from.ensures c.in_err-p.ensures refl)
 
-pub verify_operation-requires : goal.verify_operation-requires
-verify_operation-requires c =
-    may_judge c.requires.sound_store c.args.k c.args.number c.in-At.p 0 c.requires.k_bound c.find-f.ensures c.in-At.is c.if-k-eq0.true
+pub returns-in-Operation : goal.returns-in-Operation
+returns-in-Operation c =
+    did_judge c.requires c.args.k c.args.number c.in_ok-p.p (found_at c.requires c.args.k c.args.number c.in_ok-p.p c.from.ensures c.in_ok-p.ensures) c.answer_of.result (rw c.in-Operation.is (c.answer_of.ensures ∙ c.verify_operation.ensures.is))
 
-pub returns-then-k-eq0 : goal.returns-then-k-eq0
-returns-then-k-eq0 c =
-    judged_by c.requires.sound_store c.args.k c.args.number c.in-At.p 0 c.requires.k_bound c.find-f.ensures c.in-At.is c.if-k-eq0.true c.verify_operation.result c.verify_operation.ensures.is
+pub returns-in-Block : goal.returns-in-Block
+returns-in-Block c =
+    did_judge c.requires c.args.k c.args.number c.in_ok-p.p (found_at c.requires c.args.k c.args.number c.in_ok-p.p c.from.ensures c.in_ok-p.ensures) c.answer_of-in-Block.result (rw c.in-Block.is (c.answer_of-in-Block.ensures ∙ c.verify_block.ensures.is))
 
-pub verify_block-requires : goal.verify_block-requires
-verify_block-requires c =
-    may_judge c.requires.sound_store c.args.k c.args.number c.in-At.p 1 c.requires.k_bound c.find-f.ensures c.in-At.is c.if-k-eq1.true
-
-pub returns-then-k-eq1 : goal.returns-then-k-eq1
-returns-then-k-eq1 c =
-    judged_by c.requires.sound_store c.args.k c.args.number c.in-At.p 1 c.requires.k_bound c.find-f.ensures c.in-At.is c.if-k-eq1.true c.verify_block.result c.verify_block.ensures.is
-
-pub verify_region-requires : goal.verify_region-requires
-verify_region-requires c =
-    may_judge c.requires.sound_store c.args.k c.args.number c.in-At.p 2 c.requires.k_bound c.find-f.ensures c.in-At.is (third c.args.k c.requires.k_bound c.if-k-eq0.false c.if-k-eq1.false)
-
-pub returns : goal.returns
-returns c =
-    judged_by c.requires.sound_store c.args.k c.args.number c.in-At.p 2 c.requires.k_bound c.find-f.ensures c.in-At.is (third c.args.k c.requires.k_bound c.if-k-eq0.false c.if-k-eq1.false) c.verify_region.result c.verify_region.ensures.is
+pub returns-in-Region : goal.returns-in-Region
+returns-in-Region c =
+    did_judge c.requires c.args.k c.args.number c.in_ok-p.p (found_at c.requires c.args.k c.args.number c.in_ok-p.p c.from.ensures c.in_ok-p.ensures) c.answer_of-in-Region.result (rw c.in-Region.is (c.answer_of-in-Region.ensures ∙ c.verify_region.ensures.is))

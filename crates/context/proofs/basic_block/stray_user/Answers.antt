@@ -1,6 +1,4 @@
-use mathlib.Core.Path.{sym, ap, ◌∙◌}
-use mathlib.Core.Bool.{not}
-use native.Mathlib.Omega.{arith}
+use Rattle.std.proofs.Common.{not, sym, ap, ◌∙◌, arith}
 use Rattle.places.specs.Store.{blk}
 use Rattle.context.proofs.Places.{place<}
 use Rattle.context.proofs.Cursor.{here, next_less}
@@ -9,34 +7,28 @@ use Rattle.context.proofs.Users.{set_row_lem, stray_is}
 use Rattle.context.proofs.basic_block.stray_user.Goals as goal
 
 pub overflow_add-l : goal.overflow_add-l
-overflow_add-l c =
-    omega (arith, place< c.requires.sound_store (blk, c.args.b) c.requires.live, c.requires.sound_store.well.caps.blocks, c.requires.sound_store.well.caps.values)
+overflow_add-l c = omega (arith, place< c.requires.sound_store (blk, c.args.b) c.requires.live, c.requires.sound_store.well.caps.blocks, c.requires.sound_store.well.caps.values)
 
-pub first_of-k-requires : goal.first_of-k-requires
-first_of-k-requires c = record { well = c.requires.sound_store.well; k_bound = set_row_lem c.requires.sound_store c.args.b c.requires.live }
+pub first_of-next-requires-clause-k_bound : goal.first_of-next-requires-clause-k_bound
+first_of-next-requires-clause-k_bound c = set_row_lem c.requires.sound_store c.args.b c.requires.live
 
-pub loop-k-init : goal.loop-k-init
-loop-k-init c =
-    searching _ c.first_of-k.result c.first_of-k.ensures
+pub loop-next-init : goal.loop-next-init
+loop-next-init c = searching _ c.first_of-next.ensures
 
-pub user_placed-g-requires : goal.user_placed-g-requires
-user_placed-g-requires c = record { sound_store = c.requires.sound_store; live = (here c.requires.sound_store c.loop-k.invariant.at c.loop-k-test.true).live }
+pub user_placed-requires-clause-live : goal.user_placed-requires-clause-live
+user_placed-requires-clause-live c = (here c.requires.sound_store c.loop-next.invariant.at c.in-Some.is).live
 
-pub returns-then-not-g : goal.returns-then-not-g
-returns-then-not-g c =
-    hit c.requires.sound_store c.loop-k.invariant c.loop-k-test.true (ap not (sym c.user_placed-g.ensures) ∙ ap not c.if-not-g.true) ∙ stray_is c.requires.sound_store c.args.b
+pub returns-then-not-user_placed : goal.returns-then-not-user_placed
+returns-then-not-user_placed c = hit c.requires.sound_store c.loop-next.invariant c.in-Some.is (ap not (sym c.user_placed.ensures ∙ c.if-not-user_placed.true)) ∙ stray_is c.requires.sound_store c.args.b
 
-pub next_of-k-requires : goal.next_of-k-requires
-next_of-k-requires c = record { well = c.requires.sound_store.well; n_bound = (here c.requires.sound_store c.loop-k.invariant.at c.loop-k-test.true).place }
+pub next_of-next-requires-clause-n_bound : goal.next_of-next-requires-clause-n_bound
+next_of-next-requires-clause-n_bound c = (here c.requires.sound_store c.loop-next.invariant.at c.in-Some.is).place
 
-pub loop-k-smaller : goal.loop-k-smaller
-loop-k-smaller c =
-    next_less c.requires.sound_store c.loop-k.invariant.at c.loop-k-test.true c.next_of-k.result c.next_of-k.ensures
+pub loop-next-smaller : goal.loop-next-smaller
+loop-next-smaller c = next_less c.requires.sound_store c.loop-next.invariant.at c.in-Some.is c.next_of-next.ensures
 
-pub loop-k-preserved : goal.loop-k-preserved
-loop-k-preserved c =
-    miss c.requires.sound_store c.loop-k.invariant c.loop-k-test.true (ap not (sym c.user_placed-g.ensures) ∙ ap not c.if-not-g.false) c.next_of-k.result c.next_of-k.ensures
+pub loop-next-preserved : goal.loop-next-preserved
+loop-next-preserved c = miss c.requires.sound_store c.loop-next.invariant c.in-Some.is (ap not (sym c.user_placed.ensures ∙ c.if-not-user_placed.false)) c.next_of-next.ensures
 
 pub returns : goal.returns
-returns c =
-    over c.requires.sound_store c.loop-k.invariant c.loop-k-test.false ∙ stray_is c.requires.sound_store c.args.b
+returns c = over c.requires.sound_store c.loop-next.invariant c.in_default.is ∙ stray_is c.requires.sound_store c.args.b

@@ -1,15 +1,11 @@
-use Rattle.context.specs.Layout.{fam_of}
-use Rattle.context.proofs.Thin.{enter_asked, entered_at}
+use Rattle.context.proofs.Thin.{linked, unlinked, entered_at}
 use Rattle.context.proofs.lists.enter_front.Goals as goal
 
-pub insert_at_front-requires : goal.insert_at_front-requires
-insert_at_front-requires c =
-    let r = c.family_span-s in
-    let asked = enter_asked c.args.l c.args.m.now (fam_of c.args.f) r.result c.requires.well r.ensures c.args.k c.args.n c.requires.k_bound c.requires.f_value in
-    record { sizes = asked.0; linked = asked.1.0; c_lt_nc = asked.1.1.0; n_value = asked.1.1.1 }
+pub insert_at_front-requires-clause-linked : goal.insert_at_front-requires-clause-linked
+insert_at_front-requires-clause-linked c = linked c.requires.well c.family_span-s.ensures
+
+pub insert_at_front-requires-clause-n_value : goal.insert_at_front-requires-clause-n_value
+insert_at_front-requires-clause-n_value c = unlinked c.requires.well c.family_span-s.ensures _ c.requires.f_value
 
 pub returns : goal.returns
-returns c =
-    let r = c.family_span-s in
-    let u = c.insert_at_front in
-    entered_at c.args.l c.args.m.now (fam_of c.args.f) r.result c.requires.well r.ensures u.new.s u.auto.s c.args.k 0 c.args.n u.ensures
+returns c = entered_at c.requires.well c.family_span-s.ensures _ c.insert_at_front.auto.s c.insert_at_front.ensures

@@ -1,15 +1,14 @@
-use Rattle.context.specs.Layout.{fam_of}
-use Rattle.context.proofs.Thin.{unlink_asked, left}
+use Rattle.context.proofs.Thin.{linked, unlink_asked, left}
 use Rattle.context.proofs.lists.leave.Goals as goal
 
-pub unlink-requires : goal.unlink-requires
-unlink-requires c =
-    let r = c.family_span-s in
-    let asked = unlink_asked c.args.l c.args.m.now (fam_of c.args.f) r.result c.requires.well r.ensures c.args.n c.requires.stands in
-    record { sizes = asked.0; linked = asked.1.0; n_lt_nn = asked.1.1.0; nonzero = asked.1.1.1 }
+pub unlink-requires-clause-linked : goal.unlink-requires-clause-linked
+unlink-requires-clause-linked c = linked c.requires.well c.family_span-s.ensures
+
+pub unlink-requires-clause-n_lt_nn : goal.unlink-requires-clause-n_lt_nn
+unlink-requires-clause-n_lt_nn c = (unlink_asked c.requires.well c.family_span-s.ensures c.requires.stands).0
+
+pub unlink-requires-clause-nonzero : goal.unlink-requires-clause-nonzero
+unlink-requires-clause-nonzero c = (unlink_asked c.requires.well c.family_span-s.ensures c.requires.stands).1
 
 pub returns : goal.returns
-returns c =
-    let r = c.family_span-s in
-    let u = c.unlink in
-    left c.args.l c.args.m.now (fam_of c.args.f) r.result c.requires.well r.ensures u.new.s u.auto.s c.args.n c.requires.stands u.ensures
+returns c = left c.requires.well c.family_span-s.ensures _ c.unlink.auto.s c.requires.stands c.unlink.ensures

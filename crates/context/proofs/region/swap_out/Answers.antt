@@ -1,49 +1,50 @@
-use mathlib.Core.Path.{◌∙◌}
-use native.Mathlib.Omega.{arith}
 use Rattle.places.specs.Store.{reg}
 use Rattle.context.proofs.Places.{place<}
-use Rattle.context.proofs.Moving.{home_some, row<, stand, last_some, swapped_last, stand_w, room_w, stand₁, free₁, stand₂, swapped_gap}
+use Rattle.context.proofs.Moving.{own_at, row<, stand, last_some, last_at, swapped_last, stand_w, room_w, stand₁, free₁, stand₂, swapped_gap}
+use Rattle.context.proofs.region.swap_out.Goals.{then-last-r, else-last-r}
 use Rattle.context.proofs.region.swap_out.Goals as goal
 
-pub home_of-h-requires : goal.home_of-h-requires
-home_of-h-requires c = record { well = c.requires.sound_store.well; n_bound = place< c.requires.sound_store (reg, c.args.r) c.requires.live }
+pub home_of-requires-clause-n_bound : goal.home_of-requires-clause-n_bound
+home_of-requires-clause-n_bound c = place< c.requires.sound_store (reg, c.args.r) c.requires.live
 
-pub overflow_sub-h : goal.overflow_sub-h
-overflow_sub-h c = omega (arith, home_some c.args.r c.requires.sound_store c.requires.live c.home_of-h.result c.home_of-h.ensures)
+pub last_of-requires-clause-k_bound : goal.last_of-requires-clause-k_bound
+last_of-requires-clause-k_bound c = row< c.args.r c.requires.sound_store c.requires.live (own_at c.args.r c.requires.sound_store c.requires.live c.home_of.ensures c.unwrap-o.ensures)
 
-pub last_of-z-requires : goal.last_of-z-requires
-last_of-z-requires c = record { well = c.requires.sound_store.well; k_bound = row< c.args.r c.requires.sound_store c.requires.live c.home_of-h.result c.home_of-h.ensures }
+pub unwrap-last-requires : goal.unwrap-last-requires
+unwrap-last-requires c = last_some c.args.r c.requires.sound_store c.requires.live (own_at c.args.r c.requires.sound_store c.requires.live c.home_of.ensures c.unwrap-o.ensures) c.last_of.ensures
 
-pub overflow_add-r : goal.overflow_add-r
-overflow_add-r c = omega (arith, place< c.requires.sound_store (reg, c.args.r) c.requires.live, c.requires.sound_store.well.caps.regions)
+pub leave-requires-clause-stands : goal.leave-requires-clause-stands
+leave-requires-clause-stands c =
+    let own = own_at c.args.r c.requires.sound_store c.requires.live c.home_of.ensures c.unwrap-o.ensures in
+    let code = last_at c.args.r c.requires.sound_store c.requires.live own c.last_of.ensures c.unwrap-last.ensures in
+    stand_w c.args.r c.requires.sound_store c.requires.live own code c.if-last-r.true
 
-pub leave-requires : goal.leave-requires
-leave-requires c = record { well = c.requires.sound_store.well; stands = stand c.args.r c.requires.sound_store c.requires.live c.home_of-h.result c.home_of-h.ensures }
+pub enter_before-requires-clause-stands : goal.enter_before-requires-clause-stands
+enter_before-requires-clause-stands c =
+    let own = own_at c.args.r c.requires.sound_store c.requires.live c.home_of.ensures c.unwrap-o.ensures in
+    let code = last_at c.args.r c.requires.sound_store c.requires.live own c.last_of.ensures c.unwrap-last.ensures in
+    stand₁ c.args.r c.requires.sound_store c.requires.live own code c.if-last-r.true c.leave.ensures
 
-pub shape_of-m-then-z-r : goal.shape_of-m-then-z-r
-shape_of-m-then-z-r c = c.leave.auto.m
+pub enter_before-requires-clause-n_bound : goal.enter_before-requires-clause-n_bound
+enter_before-requires-clause-n_bound c =
+    let own = own_at c.args.r c.requires.sound_store c.requires.live c.home_of.ensures c.unwrap-o.ensures in
+    let code = last_at c.args.r c.requires.sound_store c.requires.live own c.last_of.ensures c.unwrap-last.ensures in
+    room_w c.args.r c.requires.sound_store c.requires.live own code c.if-last-r.true
 
-pub returns-then-z-r : goal.returns-then-z-r
-returns-then-z-r c = swapped_last c.args.r c.requires.sound_store c.requires.live c.home_of-h.result c.home_of-h.ensures c.last_of-z.result c.last_of-z.ensures c.if-z-r.true c.leave.ensures
+pub enter_before-requires-clause-f_value : goal.enter_before-requires-clause-f_value
+enter_before-requires-clause-f_value c =
+    let own = own_at c.args.r c.requires.sound_store c.requires.live c.home_of.ensures c.unwrap-o.ensures in
+    let code = last_at c.args.r c.requires.sound_store c.requires.live own c.last_of.ensures c.unwrap-last.ensures in
+    free₁ c.args.r c.requires.sound_store c.requires.live own code c.if-last-r.true c.leave.ensures
 
-pub overflow_sub-z : goal.overflow_sub-z
-overflow_sub-z c = omega (arith, last_some c.args.r c.requires.sound_store c.requires.live c.home_of-h.result c.home_of-h.ensures c.last_of-z.result c.last_of-z.ensures)
-
-pub leave-requires-2 : goal.leave-requires-2
-leave-requires-2 c = record { well = c.requires.sound_store.well; stands = stand_w c.args.r c.requires.sound_store c.requires.live c.home_of-h.result c.home_of-h.ensures c.last_of-z.result c.last_of-z.ensures c.if-z-r.false }
-
-pub overflow_sub-z-2 : goal.overflow_sub-z-2
-overflow_sub-z-2 c = omega (arith, last_some c.args.r c.requires.sound_store c.requires.live c.home_of-h.result c.home_of-h.ensures c.last_of-z.result c.last_of-z.ensures)
-
-pub enter_before-requires : goal.enter_before-requires
-enter_before-requires c =
-    let e = c.leave-2.ensures in record { well = e.well; stands = stand₁ c.args.r c.requires.sound_store c.requires.live c.home_of-h.result c.home_of-h.ensures c.last_of-z.result c.last_of-z.ensures c.if-z-r.false e; n_bound = room_w c.args.r c.requires.sound_store c.requires.live c.home_of-h.result c.home_of-h.ensures c.last_of-z.result c.last_of-z.ensures c.if-z-r.false; f_value = free₁ c.args.r c.requires.sound_store c.requires.live c.home_of-h.result c.home_of-h.ensures c.last_of-z.result c.last_of-z.ensures c.if-z-r.false e }
-
-pub leave-requires-3 : goal.leave-requires-3
-leave-requires-3 c = record { well = c.enter_before.ensures.well; stands = stand₂ c.args.r c.requires.sound_store c.requires.live c.home_of-h.result c.home_of-h.ensures c.last_of-z.result c.last_of-z.ensures c.if-z-r.false c.leave-2.ensures c.enter_before.ensures }
-
-pub shape_of-m : goal.shape_of-m
-shape_of-m c = c.leave-3.auto.m ∙ c.enter_before.auto.m ∙ c.leave-2.auto.m
+pub leave-requires-2-clause-stands : goal.leave-requires-2-clause-stands
+leave-requires-2-clause-stands c =
+    let own = own_at c.args.r c.requires.sound_store c.requires.live c.home_of.ensures c.unwrap-o.ensures in
+    let code = last_at c.args.r c.requires.sound_store c.requires.live own c.last_of.ensures c.unwrap-last.ensures in
+    elim c.if-last-r.branch [ then-last-r w ↦ rw w.m-is (stand₂ c.args.r c.requires.sound_store c.requires.live own code w.if-last-r.true w.leave.ensures w.enter_before.ensures) | else-last-r w ↦ rw w.m-is (stand c.args.r c.requires.sound_store c.requires.live own) ]
 
 pub returns : goal.returns
-returns c = swapped_gap c.args.r c.requires.sound_store c.requires.live c.home_of-h.result c.home_of-h.ensures c.last_of-z.result c.last_of-z.ensures c.if-z-r.false c.leave-2.ensures c.enter_before.ensures c.leave-3.ensures
+returns c =
+    let own = own_at c.args.r c.requires.sound_store c.requires.live c.home_of.ensures c.unwrap-o.ensures in
+    let code = last_at c.args.r c.requires.sound_store c.requires.live own c.last_of.ensures c.unwrap-last.ensures in
+    elim c.if-last-r.branch [ then-last-r w ↦ swapped_gap c.args.r c.requires.sound_store c.requires.live own code w.if-last-r.true w.leave.ensures w.enter_before.ensures (rw w.m-is at c.leave-2.ensures) | else-last-r w ↦ swapped_last c.args.r c.requires.sound_store c.requires.live own code w.if-last-r.false (rw w.m-is at c.leave-2.ensures) ]

@@ -1,0 +1,12 @@
+use mathlib.Core.Path.{sym, ◌∙◌}
+use Rattle.std.proofs.Common.{inr}
+use Rattle.places.specs.Store.{usg}
+use Rattle.context.proofs.Places.{place<}
+use Rattle.uses.proofs.Moving.{away}
+use Rattle.uses.proofs.held_in.Goals as goal
+
+pub home_of-requires-clause-n_bound : goal.home_of-requires-clause-n_bound
+home_of-requires-clause-n_bound c = place< c.requires (usg, c.in_ok-u.u) c.in_ok-u.ensures.0
+
+pub returns-else-eq : goal.returns-else-eq
+returns-else-eq c = inr (record { place = c.in_ok-u.u; live = c.in_ok-u.ensures.0; number = c.in_ok-u.ensures.1; away = λ q. away c.args.l c.args.d c.home_of.result (sym c.if-eq.ensures) (sym c.home_of.ensures.own ∙ q) })

@@ -12,13 +12,20 @@ ghost use Rattle.bits.specs.Map.{lowest};
 ghost use Rattle.table.specs.Table.{Table, Says, next, count, stamp, live, find_in};
 ghost use Rattle.seqs.specs.Entries.{lookup, places};
 
+// How many cells the table has: the map starts after them.
+fn front_len(n: usize) -> usize
+    requires { n ≤ 16384 }
+    ensures { result ≡ cells n }
+{
+    2 + n + n
+}
+
 // The place of the live thing with this number; nothing where it has ended or was never born.
 pub fn find(m: &[u32], n: usize, number: u32) -> Option<usize>
     requires { Packed n m.now }
     ensures { result ≡ find_in (live n (front n m.now)) number }
 {
-    let a = 2 + n + n;
-    table::find(&m[..a], n, number)
+    table::find(&m[..front_len(n)], n, number)
 }
 
 // The lowest free place.
@@ -26,8 +33,7 @@ fn free_place(m: &[u32], n: usize) -> Option<usize>
     requires { Packed n m.now }
     ensures { result ≡ lowest (stamp n (front n m.now)) n }
 {
-    let a = 2 + n + n;
-    bits::lowest_free(&m[a..], n)
+    bits::lowest_free(&m[front_len(n)..], n)
 }
 
 // A thing is born at the lowest free place, which is handed back, and gets the next birth number.
@@ -36,9 +42,9 @@ pub fn birth(m: &mut [u32], n: usize) -> usize
     ensures { Bore n m.old m.new result }
 {
     let place = free_place(m, n).unwrap();
-    let a = 2 + n + n;
-    table::birth_at(&mut m[..a], n, place);
-    bits::flip(&mut m[a..], place);
+    let (births, marks) = m.split_at_mut(front_len(n));
+    table::birth_at(births, n, place);
+    bits::flip(marks, place);
     place
 }
 
@@ -47,9 +53,9 @@ pub fn end(m: &mut [u32], n: usize, p: usize)
     requires { Packed n m.old × ((p < n) × (0 < stamp n (front n m.old) p)) }
     ensures { Gone n m.old m.new p }
 {
-    let a = 2 + n + n;
-    table::end(&mut m[..a], n, p);
-    bits::flip(&mut m[a..], p);
+    let (births, marks) = m.split_at_mut(front_len(n));
+    table::end(births, n, p);
+    bits::flip(marks, p);
 }
 
 // An empty arena, whatever the slice held.
@@ -57,9 +63,9 @@ pub fn start(m: &mut [u32], n: usize)
     requires { (length m.old ≡ cells n + words n) × (n ≤ 16384) }
     ensures { Fresh n m.new }
 {
-    let a = 2 + n + n;
-    table::start(&mut m[..a], n);
-    bits::clear(&mut m[a..]);
+    let (births, marks) = m.split_at_mut(front_len(n));
+    table::start(births, n);
+    bits::clear(marks);
 }
 
 // Whether each place's mark says whether it is taken.
@@ -67,12 +73,7 @@ fn check_marks(t: &[u32], b: &[u32], n: usize) -> bool
     requires { Table n t.now × (n ≤ 32 * length b.now) }
     ensures { Says result (Agree n t.now b.now) }
 {
-    for p in 0..n {
-        if bits::mark(b, p) != (table::stamp_at(t, n, p) != 0) {
-            return false;
-        }
-    }
-    true
+    (0..n).all(|p| bits::mark(b, p) == (table::stamp_at(t, n, p) != 0))
 }
 
 // Whether no place from `n` on is marked.
@@ -80,12 +81,7 @@ fn check_spare(b: &[u32], n: usize) -> bool
     requires { (length b.now ≤ 1048576) × (n ≤ 32 * length b.now) }
     ensures { Says result (Spare n b.now) }
 {
-    for p in n..32 * b.len() {
-        if bits::mark(b, p) {
-            return false;
-        }
-    }
-    true
+    (n..32 * b.len()).all(|p| !bits::mark(b, p))
 }
 
 // Whether the slice holds an arena of n places: exact on any contents and any length.
@@ -95,11 +91,11 @@ pub fn check(m: &[u32], n: usize) -> bool
     if 16384 < n {
         return false;
     }
-    let a = 2 + n + n;
-    m.len() == a + (n + 63) / 64 * 2
-        && table::check_table(&m[..a], n)
-        && check_spare(&m[a..], n)
-        && check_marks(&m[..a], &m[a..], n)
+    let front = front_len(n);
+    m.len() == front + (n + 63) / 64 * 2
+        && table::check_table(&m[..front], n)
+        && check_spare(&m[front..], n)
+        && check_marks(&m[..front], &m[front..], n)
 }
 
 // How many things live.
@@ -123,8 +119,7 @@ pub fn is_live(m: &[u32], n: usize, p: usize) -> bool
     requires { Packed n m.now }
     ensures { Says result (Alive n m.now p) }
 {
-    let a = 2 + n + n;
-    p < n && table::stamp_at(&m[..a], n, p) != 0
+    p < n && table::stamp_at(&m[..front_len(n)], n, p) != 0
 }
 
 // The birth number of the thing at place `p`.
@@ -132,8 +127,7 @@ pub fn number_at(m: &[u32], n: usize, p: usize) -> usize
     requires { Packed n m.now × Alive n m.now p }
     ensures { result ≡ lookup (live n (front n m.now)) p }
 {
-    let a = 2 + n + n;
-    table::stamp_at(&m[..a], n, p) - 1
+    table::stamp_at(&m[..front_len(n)], n, p) - 1
 }
 
 // The place of the `k`-th thing alive, by rising birth number.
@@ -141,6 +135,5 @@ pub fn nth_live(m: &[u32], n: usize, k: usize) -> usize
     requires { Packed n m.now × (k < count (front n m.now)) }
     ensures { result ≡ get_or (places (live n (front n m.now))) k 0 }
 {
-    let a = 2 + n + n;
-    table::order_at(&m[..a], n, k)
+    table::order_at(&m[..front_len(n)], n, k)
 }

@@ -10,11 +10,10 @@ fn word(b: &[u32], k: usize) -> u64
     requires { k + 1 < length b.now }
     ensures { result ≡ get_or b.now (k + 1) 0 * 4294967296 + get_or b.now k 0 }
 {
-    let hi = b[k + 1];
-    let lo = b[k];
-    (hi as u64) * 4294967296 + (lo as u64)
+    u64::from(b[k + 1]) * 4294967296 + u64::from(b[k])
 }
 
+// Kept (point 2): the count of the zeros of a complement does not say by itself that it names the first place free of the word.
 // How many of the lowest bits of `w` are set.
 fn ones(w: u64) -> u32
     ensures { Ones w result }
@@ -75,6 +74,7 @@ pub fn mark(b: &[u32], p: usize) -> bool
     (b[p / 32] >> (p % 32)) % 2 == 1
 }
 
+// Kept (point 2): fill says what the cells hold; this says what zeros mean here, no place marked, and its callers go by that.
 // No place is marked.
 pub fn clear(b: &mut [u32])
     ensures { Cleared b.old b.new }

@@ -12,6 +12,7 @@ pub mod OpLaws
 pub mod Starting
 pub mod Begun
 pub mod Dropping
+pub mod Every
 pub mod Sparing
 pub mod Checking
 pub mod ValueLaws
@@ -24,3 +25,4 @@ pub mod Performing
 pub mod Cursor
 pub mod Search
 pub mod Users
+pub mod Calling

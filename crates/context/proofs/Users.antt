@@ -5,19 +5,19 @@ use mathlib.Core.Bool.{Bool, not}
 use mathlib.Core.List.{List}
 use mathlib.Core.Option as math
 use mathlib.Core.Option.{none, some}
-use Rattle.std.specs.Prelude.{Option, Some, None, is_some as there?}
+use Rattle.std.specs.Prelude.{Option, Some, None, is_none as gone?}
 use native.Mathlib.Decide.{ℕ_discrete, dec_lt}
 use native.Mathlib.Omega.{arith}
 use Prim.Native.Nat.{ℕ, ◌+◌, ◌-◌, ◌/◌, ◌%◌, ◌<◌}
-use Rattle.places.specs.Store.{op, blk, val, usg, operands, successors, value_uses, block_uses, Fam, slots, use_sets, ops_in, Thing, Con, State, Live, outer, up}
+use Rattle.places.specs.Store.{op, blk, val, usg, operands, successors, value_uses, block_uses, ops, Fam, slots, use_sets, ops_in, Thing, Con, State, Live, outer, up}
 use Rattle.places.specs.Parts.{node_in, rows_of, con_of}
 use Rattle.places.specs.Verdict.{place_stray_user}
 use Rattle.rules.specs.Table.{any, some_and, is_some}
-use Rattle.places.proofs.Steps.{some_inj, some_none}
+use Rattle.places.proofs.Steps.{some_inj, some_none, up_live}
 use Rattle.context.specs.declared.Layout.{Layout}
 use Rattle.context.specs.Layout.{nc_of}
 use Rattle.context.specs.Memory.{con, state_of, given, SoundStore, HomeIs}
-use Rattle.context.specs.Reading.{UserIs, user_placed}
+use Rattle.context.specs.Reading.{UserIs, block_by, BlockOf}
 use Rattle.context.proofs.Places.{place<}
 use Rattle.context.proofs.Cursor.{row}
 
@@ -58,24 +58,9 @@ module _ {l : Layout} {m : List ℕ} (S : SoundStore l m) where
       go none e q = absurd (some_none q refl)
       go (some c) e q = subst (λ (y : Thing). Live P y) (some_inj q) (S.sound.linked.link (usg, u) slots c e).home
 
-  -- the block of an operation
-  pub op_free : {o : ℕ} {h : Option ℕ} → HomeIs l ops_in o m h → h ≡ None → up P (op, o) ≡ none
-  unfolding up
-  op_free H e = ap outer (around_none H e)
-
-  pub op_in : {o b : ℕ} {h : Option ℕ} → HomeIs l ops_in o m h → h ≡ Some b → up P (op, o) ≡ some (blk, b)
-  unfolding up rows_of
-  op_in H e = ap outer (around_some H e)
-
-  -- ---- is the user in a block?
-
-  pub placed_is : {u r : ℕ} {h : Option ℕ} → UserIs l u m r → HomeIs l ops_in r m h → there? h ≡ user_placed P (usg, u)
-  unfolding some_and is_some
-  placed_is {r = r} {h} U H = go h refl ∙ sym (ap (λ (o : math.Option Thing). some_and o (λ q. is_some (up P q))) U.is)
-    where
-      go : (o : Option ℕ) → h ≡ o → there? h ≡ is_some (up P (op, r))
-      go None e = ap there? e ∙ sym (ap is_some (op_free H e))
-      go (Some b) e = ap there? e ∙ sym (ap is_some (op_in H e))
+  -- the block of a use lives
+  pub block_live : {u b : ℕ} {r : Option ℕ} → BlockOf l u m r → r ≡ Some b → Live P (blk, b)
+  block_live {b = b} B e = up_live S.sound.linked B.user (blk, b) (B.is ∙ ap block_by e)
 
   -- ---- the uses of a block
 
@@ -85,8 +70,31 @@ module _ {l : Layout} {m : List ℕ} (S : SoundStore l m) where
   pub set_row_lem : (b : ℕ) → Live P (blk, b) → l.values + b < nc_of l use_sets
   set_row_lem b v = omega (arith, place< S (blk, b) v)
 
+-- ---- the block of a use's operation
+
+con_block : (l : Layout) (k : ℕ) → con l ops_in k ≡ (ops, (blk, k))
+unfolding rows_of
+con_block l k = refl
+
+outside : (l : Layout) (r : Option ℕ) → outer (con_of (con l ops_in) (given r)) ≡ block_by r
+outside l None = refl
+outside l (Some b) = ap (λ (c : Con). some c.1) (con_block l b)
+
+pub block_of_lem : {l : Layout} {m : List ℕ} {u o : ℕ} {r : Option ℕ} → UserIs l u m o → HomeIs l ops_in o m r → BlockOf l u m r
+unfolding up
+block_of_lem {l} {m} {u} {o} {r} U R = record { user = (op, o); at = U.is; is = ap outer R.own ∙ outside l r }
+
+-- is the user of a use in no block?
 abbrev pub stray? : State → Thing → Bool
-stray? P u = not (user_placed P u)
+stray? P u = not (some_and (outer (P.own u slots)) (λ o. is_some (up P o)))
+
+pub astray : {l : Layout} {m : List ℕ} {u : ℕ} {r : Option ℕ} → BlockOf l u m r → gone? r ≡ stray? (state_of l m) (usg, u)
+unfolding some_and is_some
+astray {l} {m} {u} {r} B = go r ∙ sym (ap (λ (o : math.Option Thing). not (some_and o (λ q. is_some (up (state_of l m) q)))) B.at ∙ ap (λ (o : math.Option Thing). not (is_some o)) B.is)
+  where
+    go : (o : Option ℕ) → gone? o ≡ not (is_some (block_by o))
+    go None = refl
+    go (Some b) = refl
 
 pub stray_is : {l : Layout} {m : List ℕ} (S : SoundStore l m) (b : ℕ) → any (stray? (state_of l m)) (row l use_sets (l.values + b) m) ≡ place_stray_user (state_of l m) (blk, b)
 unfolding place_stray_user

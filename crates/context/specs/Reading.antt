@@ -1,12 +1,13 @@
 -- What the readers of lists and tables say of the store by places.
 -- Assumes nothing: these are definitions.
 use Rattle.std.specs.Prelude.{◌≡◌, Option, Some, None, Bool, List, [], ◌∷◌, ◌++◌, ℕ, ◌+◌, ◌≤◌, ◌<◌, length, get_or}
+use Rattle.std.proofs.Math.Option as math
 use Rattle.std.proofs.Math.Option.{none, some}
 use Rattle.seqs.specs.Seqs.{seq_last_of}
-use Rattle.places.specs.Store.{Kind, op, usg, Fam, slots, Thing, Con, State, Live, outer, up, enter}
+use Rattle.places.specs.Store.{Kind, op, blk, usg, Fam, slots, Thing, Con, Live, outer, up, enter}
 use Rattle.places.specs.Parts.{node_in}
 use Rattle.places.specs.View.{num}
-use Rattle.rules.specs.Table.{some_and, is_some}
+use Rattle.rules.specs.Table.{any}
 use Rattle.context.specs.declared.Layout.{Layout}
 use Rattle.context.specs.Layout.{cap_of, nn_of}
 use Rattle.context.specs.Memory.{part, con, state_of, first_place, Well}
@@ -69,6 +70,21 @@ pub record TagIs (l : Layout) (a : Thing) (m : List ℕ) (r : ℕ) : Type 0 wher
 pub record UserIs (l : Layout) (u : ℕ) (m : List ℕ) (r : ℕ) : Type 0 where
   pub is : outer ((state_of l m).own (usg, u) slots) ≡ some (op, r)
 
--- is that operation in a block?
-abbrev pub user_placed : State → Thing → Bool
-user_placed P u = some_and (outer (P.own u slots)) (λ o. is_some (up P o))
+-- the block at a place
+abbrev pub block_by : Option ℕ → math.Option Thing
+block_by None = none
+block_by (Some b) = some (blk, b)
+
+-- r is the block of the operation at which the use at the place u stands
+pub record BlockOf (l : Layout) (u : ℕ) (m : List ℕ) (r : Option ℕ) : Type 0 where
+  pub user : Thing
+  pub at : outer ((state_of l m).own (usg, u) slots) ≡ some user
+  pub is : up (state_of l m) user ≡ block_by r
+
+-- H holds at each live place of the family
+abbrev pub AtLive : Layout → Fam → List ℕ → (ℕ → Type 0) → Type 0
+AtLive l f m H = (p : ℕ) → Live (state_of l m) (node_in f, p) → H p
+
+-- r is whether a place of the list k passes the test, whatever the test says of a thing
+abbrev pub AnyOf : Layout → Fam → ℕ → List ℕ → (ℕ → Bool → Type 0) → Bool → Type 0
+AnyOf l f k m Says r = (t : Thing → Bool) → AtLive l f m (λ p. (b : Bool) → Says p b → b ≡ t (node_in f, p)) → r ≡ any t (list_of l m (con l f k))

@@ -1,14 +1,13 @@
 // Blocks, after basic_block.rs of pliron 0.20.0 (Apache-2.0): birth, end, and whether all users are in blocks.
 ghost use Rattle.std.specs.Prelude.{◌≡◌};
-ghost use Rattle.places.specs.Store.{blk, usg, Live};
+ghost use Rattle.places.specs.Store.{blk, Live};
 ghost use Rattle.places.specs.Verdict.{place_stray_user};
 ghost use Rattle.context.specs.Memory.{state_of, SoundStore, RoomFor};
-ghost use Rattle.context.specs.Reading.{user_placed};
 ghost use Rattle.context.specs.Steps.{BorneBlock, CanEnd, Ended};
 
 use super::lists::detach;
-use super::value::user_of;
-use super::{Family, Kind, Layout, bear, finish, first_of, home_of, next_of};
+use super::value::block_of;
+use super::{Family, Kind, Layout, any_of, bear, finish};
 
 // A block is born, in no region and with empty lists.
 pub fn birth_block(m: &mut [u32], l: Layout) -> usize
@@ -29,27 +28,17 @@ pub fn end_block(m: &mut [u32], l: Layout, b: usize)
     finish(m, l, Kind::Block, b);
 }
 
-// Whether the operation at which the use at the place `u` stands is in a block.
-fn user_placed(m: &[u32], l: Layout, u: usize) -> bool
-    requires sound_store { SoundStore l m.now }
-    requires live { Live (state_of l m.now) (usg, u) }
-    ensures { result ≡ user_placed (state_of l m.now) (usg, u) }
-{
-    home_of(m, l, Family::Operations, user_of(m, l, u)).is_some()
-}
-
 // Whether a user of the block at the place `b` is in no block.
 pub fn stray_user(m: &[u32], l: Layout, b: usize) -> bool
     requires sound_store { SoundStore l m.now }
     requires live { Live (state_of l m.now) (blk, b) }
     ensures { result ≡ place_stray_user (state_of l m.now) (blk, b) }
 {
-    let mut next = first_of(m, l, Family::UseSets, l.values + b);
-    while let Some(u) = next {
-        if !user_placed(m, l, u) {
-            return true;
-        }
-        next = next_of(m, l, Family::UseSets, u);
-    }
-    false
+    any_of(
+        m,
+        l,
+        Family::UseSets,
+        l.values + b,
+        |u| block_of(m, l, u).is_none(),
+    )
 }

@@ -14,9 +14,9 @@ ghost use Rattle.linked_list.specs.Links.{Sizes};
 ghost use Rattle.places.specs.Store.{Live, op, val};
 ghost use Rattle.places.specs.Roles.{missing_code};
 ghost use Rattle.context.specs.Kinds.{kind_of, fam_of, IsNested, IsMember, IsMemberFamily, IsInnerFamily};
-ghost use Rattle.context.specs.Layout.{cap_of, nc_of, nn_of, total, Caps, ArenaSize, HalfSize, TableAt, FamilyAt, FamiliesAt, SpanOf, RoomOf, TagsAt, TotalIs, HasTag};
-ghost use Rattle.context.specs.Memory.{con, state_of, Well, RoomFor, Borne, Finished, Finds, LooksUp, HomeIs, LengthIs, RoomIs, GrowIs, FirstIs};
-ghost use Rattle.context.specs.Reading.{list_of, NextIs, LastIs, NthIs, NumberIs, LiveIs, NextNumberIs, NthLiveIs};
+ghost use Rattle.context.specs.Layout.{cap_of, nc_of, nn_of, total, Caps, HalfSize, TableAt, FamilyAt, FamiliesAt, SpanOf, RoomOf, TagsAt, TotalIs, HasTag};
+ghost use Rattle.context.specs.Memory.{con, state_of, Well, RoomFor, Borne, Finished, Finds, LooksUp, SoundStore, HomeIs, LengthIs, RoomIs, GrowIs, FirstIs};
+ghost use Rattle.context.specs.Reading.{list_of, NextIs, LastIs, NthIs, NumberIs, LiveIs, NextNumberIs, NthLiveIs, AtLive, AnyOf};
 ghost use Rattle.context.specs.Steps.{Started};
 ghost use Rattle.context.specs.Start.{StartIs, WordsNeeded};
 ghost use Rattle.context.specs.Checked.{Headed, Fits, TableOk, FamilyOk, TablesOk, FamiliesOk, SpareAt, SpareIn, SpareOk};
@@ -27,7 +27,7 @@ use edit::{Member, Nested, Refusal};
 use linked_list::Lists;
 
 // The most entries of an ordered list.
-const MOST_LISTED: usize = 64;
+pub const MOST_LISTED: usize = 64;
 
 // A table of which so many were born gives no more numbers.
 const LAST_NUMBER: usize = 4294967295;
@@ -101,6 +101,7 @@ impl From<Nested> for Family {
     }
 }
 
+// Kept (point 5): words and layout stay two parameters: lent by & to readers and by &mut to edits, a struct of them would be two types.
 // The capacities of the five tables.
 #[repr(C)]
 #[derive(Clone, Copy)]
@@ -128,15 +129,7 @@ pub struct Span {
     pub lists: Lists,
 }
 
-// The numbers of a table of capacity `n`.
-fn arena_size(n: usize) -> usize
-    requires { n ≤ 16384 }
-    ensures { ArenaSize n result }
-{
-    2 + n + n + (n + 63) / 64 * 2
-}
-
-// Half of them: the starts of parts are sums of sizes, which are all even, and sums of halves are less work.
+// Half of the numbers of a table of capacity `n`: the starts of parts are sums of sizes, which are all even, and sums of halves are less work.
 fn half_size(n: usize) -> usize
     requires { n ≤ 16384 }
     ensures { HalfSize n result }
@@ -151,7 +144,7 @@ fn table_at(at: usize, n: usize) -> Table
 {
     Table {
         at,
-        end: at + arena_size(n),
+        end: at + 2 * half_size(n),
         places: n,
     }
 }
@@ -179,12 +172,7 @@ fn families_at(l: Layout) -> usize
     requires { Caps l }
     ensures { FamiliesAt l result }
 {
-    let a = half_size(l.ops);
-    let b = half_size(l.blocks);
-    let r = half_size(l.regions);
-    let v = half_size(l.values);
-    let u = half_size(l.uses);
-    5 + 2 * (a + b + r + v + u)
+    table_span(l, Kind::Use).end
 }
 
 // The family of nc lists and nn nodes that starts at `at`.
@@ -334,6 +322,23 @@ pub fn nth_of(m: &[u32], l: Layout, f: Family, k: usize, i: usize) -> usize
 {
     let s = family_span(l, f);
     s.lists.nth(&m[s.at..s.end], k, i)
+}
+
+// Whether a place of the list `k` of the family `f` passes the test.
+pub fn any_of<F: Fn(usize) -> bool>(m: &[u32], l: Layout, f: Family, k: usize, test: F) -> bool
+    requires sound_store { SoundStore l m.now }
+    requires k_bound { k < nc_of l (fam_of f) }
+    requires callable { AtLive l (fam_of f) m.now (F.pre test) }
+    ensures { AnyOf l (fam_of f) k m.now (F.post test) result }
+{
+    let mut next = first_of(m, l, f, k);
+    while let Some(p) = next {
+        if test(p) {
+            return true;
+        }
+        next = next_of(m, l, f, p);
+    }
+    false
 }
 
 // Whether a place and a number are left for a birth of the kind `k`.
@@ -551,12 +556,7 @@ fn places_spare(t: &[u32], s: &[u32], n: usize) -> bool
     requires { Packed n t.now × (length s.now ≡ n) }
     ensures { Says result (SpareIn n t.now s.now) }
 {
-    for p in 0..n {
-        if !place_spare(t, s, n, p) {
-            return false;
-        }
-    }
-    true
+    (0..n).all(|p| place_spare(t, s, n, p))
 }
 
 // Whether the free places of the kind `k` have a 0 among the tags that start at `at`.

@@ -21,6 +21,7 @@ pub fn leave(m: &mut [u32], l: Layout, f: Family, n: usize)
     s.lists.unlink(&mut m[s.at..s.end], n);
 }
 
+// Kept (point 2): the five that enter call each another function of `Lists`, which asks something else.
 // The node `n` comes to stand first in the list `k` of the family `f`.
 pub fn enter_front(m: &mut [u32], l: Layout, f: Family, k: usize, n: usize)
     requires well { Well l m.old }

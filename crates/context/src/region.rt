@@ -17,6 +17,7 @@ pub fn birth_region(m: &mut [u32], l: Layout, o: usize) -> usize
     p
 }
 
+// Kept (point 2): a helper shared with end_block is no plainer: it has to ask that `f` orders things of the kind `k`, which are no uses and have no tags, to make two calls.
 // The region at the place `r`, with no blocks, leaves its operation, whose other regions keep their order, and ends.
 pub fn end_region(m: &mut [u32], l: Layout, r: usize)
     requires sound_store { SoundStore l m.old }

@@ -3,7 +3,7 @@ ghost use Rattle.std.specs.Prelude.{◌≡◌, ◌<◌};
 ghost use Rattle.places.specs.Store.{Live, val, usg, vals, use_sets, slots};
 ghost use Rattle.context.specs.Layout.{nc_of};
 ghost use Rattle.context.specs.Memory.{con, state_of, Well, SoundStore, MayTag, Tagged};
-ghost use Rattle.context.specs.Reading.{TagIs, UserIs};
+ghost use Rattle.context.specs.Reading.{TagIs, UserIs, BlockOf};
 ghost use Rattle.context.specs.Steps.{CanMove, Moved, EndedUse, CanBear, BorneUse, Unused, EndedValue, CanBearValue, BorneValue};
 
 use super::lists::{enter_at, enter_back, leave};
@@ -94,4 +94,13 @@ pub fn user_of(m: &[u32], l: Layout, u: usize) -> usize
     ensures { UserIs l u m.now result }
 {
     home_of(m, l, Family::Slots, u).unwrap() / 2
+}
+
+// The block of the operation at which the use at the place `u` stands.
+pub fn block_of(m: &[u32], l: Layout, u: usize) -> Option<usize>
+    requires sound_store { SoundStore l m.now }
+    requires live { Live (state_of l m.now) (usg, u) }
+    ensures { BlockOf l u m.now result }
+{
+    home_of(m, l, Family::Operations, user_of(m, l, u))
 }

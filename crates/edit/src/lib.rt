@@ -180,6 +180,7 @@ const MOST_ENTRIES: u32 = 64;
 // The most fields of a record that lists numbers: two, and 256 listed.
 const MOST_FIELDS: usize = 258;
 
+// Kept (point 6): a table indexed by the number of the kind, as the project asks.
 // The least field count of each kind, from kind 1 on.
 const LEAST: [u8; 44] = [
     // new operation, new block

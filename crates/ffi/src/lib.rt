@@ -14,6 +14,7 @@ use context::Layout;
 use edit::{Answer, Refusal};
 use readers::Definition;
 
+// Kept (point 5): five capacities are five parameters of the C interface.
 // The capacities as the store takes them.
 fn layout(ops: u32, blocks: u32, regions: u32, values: u32, uses: u32) -> Layout
     ensures { result ≡ layout_by ops blocks regions values uses }
@@ -27,6 +28,7 @@ fn layout(ops: u32, blocks: u32, regions: u32, values: u32, uses: u32) -> Layout
     }
 }
 
+// Kept (point 1): the C interface hands back a refusal as its number, and 0 for none.
 // The number of a refusal, or 0.
 fn code<T: Copy>(r: Result<T, Refusal>) -> u32
     ensures { result ≡ code_of r }
@@ -65,12 +67,10 @@ fn tell_answer(a: Answer, out: &mut [u32]) -> u32
     requires { 3 ≤ length out.old }
     ensures { ToldAnswer a out.old out.new result }
 {
-    let refusal = code(a);
-    if refusal == Refusal::Unsound.number() {
-        return refusal;
+    if !matches!(a, Err(Refusal::Unsound)) {
+        edit::put_answer(out, 0, a);
     }
-    edit::put_answer(out, 0, a);
-    refusal
+    code(a)
 }
 
 // One edit: its refusal or 0, and its three numbers in `answer`. 22 where `answer` has no room for them, before anything is
@@ -132,7 +132,7 @@ pub extern "C" fn recipe_listing(
     }
     let l = context::layout_of(store);
     let n = answers.len() / 3;
-    if n > 4294967295 {
+    if n > u32::MAX as usize {
         return Refusal::NoRoom.number();
     }
     let a = listing::write_answers(answers, n, out, 0);
@@ -165,6 +165,7 @@ pub extern "C" fn recipe_value_uses(
     )
 }
 
+// Kept (point 2): this one and the one above are two functions of the C interface.
 // The numbers of a block's uses, likewise. 6, 8 or 22 where refused.
 #[unsafe(no_mangle)]
 pub extern "C" fn recipe_block_uses(

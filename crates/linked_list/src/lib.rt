@@ -301,6 +301,7 @@ impl Lists {
         self.take_out(s, c, p, q, n);
     }
 
+    // Kept (point 2): fill says what the cells hold; this says what zeros mean here, every list empty, and its callers go by that.
     /// Makes every list empty, whatever `s` held.
     pub fn init(self, s: &mut [u32])
         requires s_len { length s.old ≡ 2 * self.nc + 3 * self.nn }

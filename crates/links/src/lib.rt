@@ -22,9 +22,6 @@ ghost use Rattle.links.specs.Moving.{MayMove, MoveTested};
 use context::{Family, Kind, Layout};
 use edit::{Answer, Member, Nested, Refusal};
 
-// The most regions of an operation.
-const MOST_REGIONS: usize = 64;
-
 // What the climb looks for: a thing with an inside, by its kind and its place.
 #[derive(Clone, Copy)]
 struct Sought {
@@ -287,7 +284,7 @@ fn may_move(m: &[u32], l: Layout, n: usize, k: usize) -> Result<(), Refusal>
     if operation_in(m, l, x, k, context::live_count(m, l, Kind::Operation)) {
         return Err(Refusal::InsideItself);
     }
-    if context::row_length(m, l, Family::Regions, k) >= MOST_REGIONS {
+    if context::row_length(m, l, Family::Regions, k) >= context::MOST_LISTED {
         return Err(Refusal::ListFull);
     }
     Ok(())

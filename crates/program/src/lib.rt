@@ -8,13 +8,31 @@ ghost use Rattle.program.specs.Program.{Begun};
 
 use context::Layout;
 
+// How many bytes a script may have.
+pub const MOST_SCRIPT: usize = 16384;
+
+// How many bytes of input are read: one more shows that a script is too long.
+pub const MOST_READ: usize = MOST_SCRIPT + 1;
+
+// Room for the output of every script.
+pub const MOST_OUTPUT: usize = 262144;
+
+// How many words the store has.
+const WORDS: usize = 9135;
+
+// How many operations it has room for: as many words has the scratch.
+const OPERATIONS: usize = 128;
+
+// Room for the answers of every script, three words each.
+const ANSWERS: usize = 12288;
+
 // An empty store with the program's capacities.
 fn begin(store: &mut [u32]) -> Layout
     requires { length store.old ≡ 9135 }
     ensures { Begun result store.new }
 {
     let l = Layout {
-        ops: 128,
+        ops: OPERATIONS,
         blocks: 64,
         regions: 64,
         values: 256,
@@ -28,10 +46,10 @@ fn begin(store: &mut [u32]) -> Layout
 fn run(script: &[u8], out: &mut [u8]) -> usize
     ensures { Written (printed script.now) out.old 0 out.new result }
 {
-    let mut store = [0u32; 9135];
+    let mut store = [0u32; WORDS];
     let l = begin(&mut store);
-    let mut scratch = [0u32; 128];
-    let mut answers = [0u32; 12288];
+    let mut scratch = [0u32; OPERATIONS];
+    let mut answers = [0u32; ANSWERS];
     let ran = script::script(&mut store, &mut scratch, script, &mut answers);
     let a = listing::write_answers(&answers, ran.count, out, 0);
     listing::write_listing(&store, l, out, a)
@@ -41,7 +59,7 @@ fn run(script: &[u8], out: &mut [u8]) -> usize
 pub fn print(script: &[u8], out: &mut [u8]) -> usize
     ensures { Written (output script.now) out.old 0 out.new result }
 {
-    if 16384 < script.len() {
+    if MOST_SCRIPT < script.len() {
         return listing::put_text(b"script too long\n", out, 0);
     }
     run(script, out)
@@ -49,9 +67,9 @@ pub fn print(script: &[u8], out: &mut [u8]) -> usize
 
 // Reads a script from standard input and prints what `print` says: the buffer has room for the output of every script.
 pub fn run_input() {
-    let mut script = [0u8; 16385];
+    let mut script = [0u8; MOST_READ];
     let n = io::read_full(0, &mut script);
-    let mut out = [0u8; 262144];
+    let mut out = [0u8; MOST_OUTPUT];
     let r = print(&script[..n], &mut out);
     io::write_all(1, &out[..r]);
 }

@@ -21,6 +21,7 @@ pub enum Definition {
     Block(u32),
 }
 
+// Kept (point 2): shares `nth_use` with the listing; a closure for what is written needs a longer contract than this loop.
 // The uses in the set `k`: the live uses are gone through in rising number.
 fn fill_uses(m: &[u32], l: Layout, k: usize, out: &mut [u32]) -> usize
     requires sound_store { SoundStore l m.now }
@@ -73,7 +74,8 @@ fn sound_uses(
 }
 
 // The uses of a definition: their numbers, rising, in front of `out`, whose rest is kept; the result is how many.
-// Unsound where the store is not sound, then NoValue or NoBlock where nothing lives under the number, then NoRoom where `out` is too short; a refusal keeps `out`.
+// Unsound where the store is not sound, then NoValue or NoBlock where nothing lives under the number, then NoRoom where `out` is
+// too short; a refusal keeps `out`.
 pub fn uses_of(store: &[u32], definition: Definition, out: &mut [u32]) -> Result<usize, Refusal>
     ensures { ToldOf store.now (definition_by definition) out.old out.new result }
 {

@@ -12,6 +12,9 @@ use linked_list::Lists;
 // The most nodes of an ordered list.
 const MOST_LISTED: usize = 64;
 
+// The greatest flags of an operation: two bits.
+const MOST_FLAGS: u32 = 3;
+
 // The order and the stamps of the things of a kind, by place.
 #[derive(Clone, Copy)]
 pub struct Births<'a> {
@@ -161,19 +164,19 @@ fn check_short(rows: &Rows) -> bool
     (0..rows.lists.nc).all(|c| rows.count(c) <= MOST_LISTED)
 }
 
-// Whether both.
+// Whether each live node stands in a list, and no list has more than 64.
 fn check_listed(rows: &Rows) -> bool
     ensures { Says result (Must rows.now.lists.nc rows.now.nodes.places rows.now.words.now rows.now.nodes.words.now × Short rows.now.lists.nc rows.now.lists.nn rows.now.words.now) }
 {
     check_must(rows) && check_short(rows)
 }
 
-// Whether the flags of each live operation are at most 3.
+// Whether no flags of a live operation are over the most.
 fn check_flags(ops: &Births, flags: &[u32]) -> bool
     requires { length flags.now ≡ ops.now.places }
     ensures { Says result (Flags ops.now.places ops.now.words.now flags.now) }
 {
-    (0..ops.places).all(|p| !ops.is_live(p) || flags[p] <= 3)
+    (0..ops.places).all(|p| !ops.is_live(p) || flags[p] <= MOST_FLAGS)
 }
 
 // Whether the use x of the list c of slots lives, and its operation, and is held by a definition of the right kind: the first are
@@ -184,12 +187,12 @@ fn use_at(ops: &Births, values: usize, sets: &Rows, c: usize, x: usize) -> bool
 {
     sets.nodes.is_live(x)
         && ops.is_live(c / 2)
-        && match sets.home(x) {
-            None => false,
-            Some(d) => if c % 2 == 0 { d < values } else { d >= values },
-        }
+        && sets
+            .home(x)
+            .is_some_and(|d| if c % 2 == 0 { d < values } else { d >= values })
 }
 
+// Kept (point 3): j counts the links passed; the project asks for nested loops, left by a label at the first fault.
 // Operations, their two lists of slots, and the uses there: the first fault found ends the search.
 fn check_slots(ops: &Births, values: usize, slots: &Rows, sets: &Rows) -> bool
     requires slots_sized { Sized slots.now.lists (2 * ops.now.places) sets.now.nodes.places }
@@ -199,7 +202,6 @@ fn check_slots(ops: &Births, values: usize, slots: &Rows, sets: &Rows) -> bool
     'search: for p in 0..ops.places {
         for c in 2 * p..2 * p + 2 {
             let mut next = slots.first(c);
-            // Kept (point 3): j counts the links passed, and document 01 asks for this loop, left at the first broken link.
             let mut j = 0;
             while let Some(x) = next {
                 if j >= MOST_LISTED || !use_at(ops, values, sets, c, x) {

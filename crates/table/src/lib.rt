@@ -30,7 +30,7 @@ fn rank_between(t: &[u32], n: usize, x: usize, from: usize, to: usize) -> usize
 {
     from + t[2 + from..2 + to].partition_point(|p| {
         let p = *p as usize;
-        p < n && t[2 + n + p] as usize <= x
+        p < n && stamp_at(t, n, p) <= x
     })
 }
 
@@ -57,8 +57,8 @@ pub fn find(t: &[u32], n: usize, number: u32) -> Option<usize>
     if t[1] as usize <= k {
         return None;
     }
-    let p = t[2 + k] as usize;
-    let s = t[2 + n + p] as usize;
+    let p = order_at(t, n, k);
+    let s = stamp_at(t, n, p);
     if s == x + 1 { Some(p) } else { None }
 }
 
@@ -89,8 +89,7 @@ pub fn end(t: &mut [u32], n: usize, p: usize)
     requires { Table n t.old × ((p < n) × (0 < stamp n t.old p)) }
     ensures { Ended n t.old t.new p }
 {
-    let s = t[2 + n + p] as usize;
-    let k = rank(t, n, s - 1);
+    let k = rank(t, n, stamp_at(t, n, p) - 1);
     let l = t[1];
     close_gap(t, k, l as usize);
     t[1 + l as usize] = 0;
@@ -98,6 +97,7 @@ pub fn end(t: &mut [u32], n: usize, p: usize)
     t[1] = l - 1;
 }
 
+// Kept (point 2): fill says what the cells hold; this says what zeros mean here, a table where nothing lives, and its callers go by that.
 // An empty table.
 pub fn start(t: &mut [u32], n: usize)
     requires { (length t.old ≡ 2 + n + n) × (n ≤ 16384) }
@@ -113,11 +113,11 @@ fn check_order(t: &[u32], n: usize) -> bool
 {
     let mut prev = 0;
     for i in 0..t[1] as usize {
-        let q = t[2 + i] as usize;
+        let q = order_at(t, n, i);
         if n <= q {
             return false;
         }
-        let s = t[2 + n + q];
+        let s = stamp_at(t, n, q);
         if s <= prev {
             return false;
         }

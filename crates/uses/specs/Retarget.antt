@@ -3,28 +3,17 @@
 use Rattle.std.specs.Prelude.{◌≡◌, Bool, true, false, ◌||◌, List, ℕ, eqb, length, get_or}
 use Rattle.std.specs.Prelude as Rust
 use Rattle.std.specs.Prelude.{Some, None}
-use Rattle.std.proofs.Math.Option.{Option, none, some}
 use Rattle.edit.specs.Record.{successor, retarget_some}
 use Rattle.rules.specs.Table.{member}
 use Rattle.rules.specs.State.{accept}
-use Rattle.places.specs.Store.{Kind, blk, usg, slots, Thing, Live, outer, up}
+use Rattle.places.specs.Store.{Kind, blk, Live}
 use Rattle.places.specs.View.{num}
 use Rattle.places.specs.Hist.{meaning}
 use Rattle.context.specs.declared.Layout.{Layout}
 use Rattle.context.specs.Memory.{part, state_of, SoundStore}
+use Rattle.context.specs.Reading.{BlockOf}
 use Rattle.context.specs.Steps.{Moved}
 use Rattle.uses.specs.Look.{DefAt}
-
--- the block at a place
-abbrev pub block_by : Rust.Option ℕ → Option Thing
-block_by None = none
-block_by (Some b) = some (blk, b)
-
--- r is the block of the operation at which the use at the place u stands
-pub record BlockOf (l : Layout) (u : ℕ) (m : List ℕ) (r : Rust.Option ℕ) : Type 0 where
-  pub user : Thing
-  pub at : outer ((state_of l m).own (usg, u) slots) ≡ some user
-  pub is : up (state_of l m) user ≡ block_by r
 
 -- is the block at the place b marked?
 abbrev pub marked : List Bool → ℕ → Bool

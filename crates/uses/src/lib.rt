@@ -13,7 +13,7 @@ ghost use Rattle.context.specs.Reading.{list_of};
 ghost use Rattle.context.specs.Steps.{CanMove};
 ghost use Rattle.context.specs.Performed.{Performed};
 ghost use Rattle.uses.specs.Some.{Between, HeldIn, PlacedOne, PlacedAll};
-ghost use Rattle.uses.specs.Retarget.{BlockOf, MarkedOne, Marks, Chosen, RetargetedOne, RetargetedAll};
+ghost use Rattle.uses.specs.Retarget.{MarkedOne, Marks, Chosen, RetargetedOne, RetargetedAll};
 ghost use Rattle.uses.specs.Look.{SlotFound, DefFound, DefNumberIs, Taken};
 
 use context::{Family, Kind, Layout};
@@ -228,16 +228,6 @@ fn mark_listed(m: &[u32], l: Layout, rec: &[u8], marks: &mut [bool])
     }
 }
 
-// The block of the operation at which the use stands.
-pub fn block_of(m: &[u32], l: Layout, u: usize) -> Option<usize>
-    requires sound_store { SoundStore l m.now }
-    requires live { Live (state_of l m.now) (usg, u) }
-    ensures { BlockOf l u m.now result }
-{
-    let o = context::value::user_of(m, l, u);
-    context::home_of(m, l, Family::Operations, o)
-}
-
 // Whether the use stands at an operation of a marked block.
 fn is_chosen(m: &[u32], l: Layout, u: usize, marks: &[bool]) -> bool
     requires sound_store { SoundStore l m.now }
@@ -245,7 +235,7 @@ fn is_chosen(m: &[u32], l: Layout, u: usize, marks: &[bool]) -> bool
     requires marks_len { length marks.now ≡ 1024 }
     ensures { Chosen l u marks.now m.now result }
 {
-    block_of(m, l, u).is_some_and(|b| marks[b])
+    context::value::block_of(m, l, u).is_some_and(|b| marks[b])
 }
 
 // The use moves to the set `e`, if it stands at an operation of a marked block.

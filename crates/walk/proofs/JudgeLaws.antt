@@ -25,7 +25,7 @@ use Rattle.places.proofs.VerdictWalk.{verdict_eq}
 use Rattle.context.specs.declared.Layout.{Layout}
 use Rattle.context.specs.Layout.{nc_of}
 use Rattle.context.specs.Memory.{con, state_of, given, SoundStore, first_place, HomeIs}
-use Rattle.context.specs.Reading.{list_of, last_place, NextIs, LastIs, NumberIs, UserIs}
+use Rattle.context.specs.Reading.{list_of, last_place, NextIs, LastIs, NumberIs, block_by, BlockOf}
 use Rattle.context.proofs.Families.{con_back}
 use Rattle.context.proofs.Places.{place<}
 use Rattle.walk.specs.Judge.{on_op, alone, user_leads}
@@ -148,11 +148,6 @@ module _ {l : Layout} {m : List ℕ} (S : SoundStore l m) where
   around_live : (f : Fam) (n k : ℕ) → P.own (node_in f, n) f ≡ some (con l f k) → Live P (con l f k).1
   around_live f n k e = (S.sound.linked.link (node_in f, n) f (con l f k) e).home
 
-  -- the block of an operation
-  pub op_in_live : (o : ℕ) {h : Rust.Option ℕ} {k : ℕ} → HomeIs l ops_in o m h → h ≡ Some k → Live P (blk, k)
-  unfolding rows_of
-  op_in_live o {h} {k} H z = around_live ops_in o k (around_some H z)
-
   -- the region of a block, the operation of a region
   block_free : (b : ℕ) {h : Rust.Option ℕ} → HomeIs l blocks_in b m h → h ≡ None → up P (blk, b) ≡ none
   unfolding up
@@ -176,23 +171,19 @@ module _ {l : Layout} {m : List ℕ} (S : SoundStore l m) where
 
   -- ---- the tests of a use
 
-  op_up : (o : ℕ) {h : Rust.Option ℕ} → HomeIs l ops_in o m h → up P (op, o) ≡ outer (con_of (con l ops_in) (given h))
-  unfolding up
-  op_up o H = ap outer H.own
-
-  user_up : {u r : ℕ} {h : Rust.Option ℕ} (b : ℕ) → UserIs l u m r → HomeIs l ops_in r m h → user_leads P (blk, b) (usg, u) ≡ some_and (outer (con_of (con l ops_in) (given h))) (place_leads_to P (blk, b))
+  user_up : {u : ℕ} {h : Rust.Option ℕ} (b : ℕ) → BlockOf l u m h → user_leads P (blk, b) (usg, u) ≡ some_and (block_by h) (place_leads_to P (blk, b))
   unfolding some_and
-  user_up {u} {r} b U H =
-      ap (λ (o : Option Thing). some_and o (λ q. some_and (up P q) (place_leads_to P (blk, b)))) U.is
-      ∙ ap (λ (o : Option Thing). some_and o (place_leads_to P (blk, b))) (op_up r H)
+  user_up b B =
+      ap (λ (o : Option Thing). some_and o (λ q. some_and (up P q) (place_leads_to P (blk, b)))) B.at
+      ∙ ap (λ (o : Option Thing). some_and o (place_leads_to P (blk, b))) B.is
 
-  pub leads_none : {u r : ℕ} {h : Rust.Option ℕ} (b : ℕ) → UserIs l u m r → HomeIs l ops_in r m h → h ≡ None → false ≡ user_leads P (blk, b) (usg, u)
+  pub leads_none : {u : ℕ} {h : Rust.Option ℕ} (b : ℕ) → BlockOf l u m h → h ≡ None → false ≡ user_leads P (blk, b) (usg, u)
   unfolding some_and
-  leads_none b U H z = sym (user_up b U H ∙ ap (λ (i : Rust.Option ℕ). some_and (outer (con_of (con l ops_in) (given i))) (place_leads_to P (blk, b))) z)
+  leads_none b B z = sym (user_up b B ∙ ap (λ (i : Rust.Option ℕ). some_and (block_by i) (place_leads_to P (blk, b))) z)
 
-  pub leads_some : {u r p : ℕ} {h : Rust.Option ℕ} (b : ℕ) → UserIs l u m r → HomeIs l ops_in r m h → h ≡ Some p → place_leads_to P (blk, b) (blk, p) ≡ user_leads P (blk, b) (usg, u)
-  unfolding some_and rows_of
-  leads_some b U H z = sym (user_up b U H ∙ ap (λ (i : Rust.Option ℕ). some_and (outer (con_of (con l ops_in) (given i))) (place_leads_to P (blk, b))) z)
+  pub leads_some : {u p : ℕ} {h : Rust.Option ℕ} (b : ℕ) → BlockOf l u m h → h ≡ Some p → place_leads_to P (blk, b) (blk, p) ≡ user_leads P (blk, b) (usg, u)
+  unfolding some_and
+  leads_some b B z = sym (user_up b B ∙ ap (λ (i : Rust.Option ℕ). some_and (block_by i) (place_leads_to P (blk, b))) z)
 
   -- ---- the last operation of a block
 

@@ -1,4 +1,3 @@
-pub mod Calling
 pub mod Nested
 pub mod DropLaws
 pub mod DropWalk

@@ -58,6 +58,12 @@ inner_kind Operation = Region
 inner_kind Block = Operation
 inner_kind Region = Block
 
+-- by fewer than how many steps a use from outside is one of the thing's own, not of what lies deeper
+abbrev pub own_reach : Nested → ℕ
+own_reach Operation = 1
+own_reach Block = 2
+own_reach Region = 0
+
 -- the edit that erases an operation or a block
 abbrev pub erase_by : Member → ℕ → Edit
 erase_by operation n = erase_operation n

@@ -5,24 +5,12 @@ use Rattle.seqs.specs.Seqs.{count, sum}
 use Rattle.edit.specs.Kinds.{code_of}
 use Rattle.edit.specs.declared.Nested.{Nested}
 use Rattle.edit.specs.declared.Refusal.{Refusal}
-use Rattle.places.specs.Store.{op, value_uses, Fam, Thing, Thing-dec, Con, State, Live}
-use Rattle.places.specs.Parts.{node_in}
+use Rattle.places.specs.Store.{op, value_uses, Thing, Thing-dec, Con, State, Live}
 use Rattle.places.specs.Walk.{pick, sgn, kids, walk_by, walk, def_sets, mark_of, strays, strays_in}
 use Rattle.rules.specs.Table.{any}
 use Rattle.context.specs.declared.Layout.{Layout}
-use Rattle.context.specs.Memory.{con, state_of, SoundStore}
+use Rattle.context.specs.Memory.{state_of, SoundStore}
 use Rattle.context.specs.Nest.{nested_kind}
-use Rattle.context.specs.Reading.{list_of}
-
--- ---- a test of the places of a list
-
--- it holds at each live place of the family
-abbrev pub AtLive : Layout → Fam → List ℕ → (ℕ → Type 0) → Type 0
-AtLive l f m H = (p : ℕ) → Live (state_of l m) (node_in f, p) → H p
-
--- r is whether a place of the list k passes the test, whatever the test says of a thing
-abbrev pub AnyOf : Layout → Fam → ℕ → List ℕ → (ℕ → Bool → Type 0) → Bool → Type 0
-AnyOf l f k m Says r = (t : Thing → Bool) → AtLive l f m (λ p. (b : Bool) → Says p b → b ≡ t (node_in f, p)) → r ≡ any t (list_of l m (con l f k))
 
 -- ---- what lies in a thing
 

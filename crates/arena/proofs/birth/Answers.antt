@@ -1,11 +1,11 @@
 -- A birth, in both parts. Assumes nothing.
-use Rattle.std.proofs.Common.{◌≡◌, sym, ◌∙◌, subst, subst₂, List, ◌++◌, ℕ, ◌-◌, ◌≤◌, arith, length, take, drop}
+use Rattle.std.proofs.Common.{◌≡◌, sym, ap, ◌∙◌, subst, subst₂, List, ℕ, take, ◌<◌}
 use Rattle.bits.specs.Map.{Flipped}
-use Rattle.table.specs.Table.{Born, stamp}
-use Rattle.arena.specs.Packed.{front, cells}
+use Rattle.table.specs.Table.{Table, Born, next, stamp}
+use Rattle.arena.specs.Packed.{front}
 use Rattle.bits.proofs.Lowest.{Low, low_at}
 use Rattle.table.proofs.Laws.{has_free}
-use Rattle.arena.proofs.Parts.{tail_kept, front_now, back_now, long_now}
+use Rattle.arena.proofs.Parts.{rejoined}
 use Rattle.arena.proofs.Marks.{bore, some_of}
 use Rattle.arena.proofs.birth.Goals as goal
 use Rattle.arena.proofs.birth.Goals.{After-unwrap-place}
@@ -19,19 +19,17 @@ unwrap-place-requires c = some_of c.free_place.result (λ e. has_free _ _ c.requ
 
 pub birth_at-requires : goal.birth_at-requires
 birth_at-requires c =
-    (c.requires.0.table, (c.requires.1.1, ((low (goal.at.birth_at-requires c).After-unwrap-place).inside, (low (goal.at.birth_at-requires c).After-unwrap-place).free)))
+    let l = low (goal.at.birth_at-requires c).After-unwrap-place in
+    subst (λ (t : List ℕ). Table c.args.n t × ((next t < 4294967295) × ((c.unwrap-place.result < c.args.n) × (stamp c.args.n t c.unwrap-place.result ≡ 0))))
+    (sym (c.split_at_mut-births.ensures.front ∙ ap (λ (k : ℕ). take k c.args.m.now) c.front_len.ensures))
+    (c.requires.0.table, (c.requires.1.1, (l.inside, l.free)))
 
 pub returns : goal.returns
 returns c =
-    let a : ℕ = cells c.args.n in
-    let m : List ℕ = c.args.m.now in
-    let e : List ℕ = c.birth_at.new.t in
-    let f : List ℕ = c.flip.new.b in
     let p : ℕ = c.unwrap-place.result in
-    let fits : a ≤ length m = omega (arith, c.requires.0.size) in
-    let le : length e ≡ length (take a m) = c.birth_at.auto.t in
-    let lf : length f ≡ length (take (length (e ++ drop a m) - a) (drop a (e ++ drop a m))) = c.flip.auto.b in
-    bore _ _ _ _ c.requires.0 (long_now a m e fits le f lf)
-    (subst (λ (x : List ℕ). Born c.args.n (front c.args.n m) x p) (sym (front_now a m e fits le f lf)) c.birth_at.ensures)
-    (subst₂ (λ (x y : List ℕ). Flipped x y p) (tail_kept a m e fits le) (sym (back_now a m e fits le f lf)) c.flip.ensures)
+    let s = c.split_at_mut-births.ensures in
+    let j = rejoined c.args.n _ c.args.m.now _ _ c.birth_at.new.t c.flip.new.b c.front_len.ensures s.front_len s.front s.back s.value c.birth_at.auto.t c.flip.auto.b in
+    bore _ _ _ _ c.requires.0 j.4
+    (subst₂ (λ (x y : List ℕ). Born c.args.n x y p) j.0 (sym j.2) c.birth_at.ensures)
+    (subst₂ (λ (x y : List ℕ). Flipped x y p) j.1 (sym j.3) c.flip.ensures)
     (low (goal.at.returns c).After-unwrap-place)

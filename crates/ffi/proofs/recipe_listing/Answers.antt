@@ -25,4 +25,4 @@ pub write_listing-b-requires : goal.write_listing-b-requires
 write_listing-b-requires c = rw (headed c.layout_of-l.ensures) c.if-not-check.ensures
 
 pub returns : goal.returns
-returns c = listed c.layout_of-l.ensures c.if-not-check.ensures c.if-n-gt4294967295.false c.write_answers-a.ensures c.write_listing-b.ensures
+returns c = listed c.layout_of-l.ensures c.if-not-check.ensures c.if-n.false c.write_answers-a.ensures c.write_listing-b.ensures

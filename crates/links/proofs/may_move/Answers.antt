@@ -20,14 +20,14 @@ returns-then-operation_in c =
 pub row_length-requires-clause-k_bound : goal.row_length-requires-clause-k_bound
 row_length-requires-clause-k_bound c = place< c.requires.sound_store (op, c.args.k) c.requires.live_2
 
-pub returns-then-row_length-ge-MOST_REGIONS : goal.returns-then-row_length-ge-MOST_REGIONS
-returns-then-row_length-ge-MOST_REGIONS c =
+pub returns-then-row_length-ge-MOST_LISTED : goal.returns-then-row_length-ge-MOST_LISTED
+returns-then-row_length-ge-MOST_LISTED c =
     move_19 c.args.n c.home_of.result c.home_of.ensures c.args.k (same_no c.home_of.result c.args.k c.if-eq.ensures)
     (operation_walk c.requires.sound_store.sound.linked (reg, c.args.n) (op, c.args.k) c.requires.live_2 c.live_count.result c.live_count.ensures.is false refl c.if-operation_in.ensures)
-    c.row_length.result c.row_length.ensures (λ h. omega (arith, h, c.if-row_length-ge-MOST_REGIONS.true))
+    c.row_length.result c.row_length.ensures (λ h. omega (arith, h, c.if-row_length-ge-MOST_LISTED.true))
 
 pub returns : goal.returns
 returns c =
     move_0 c.args.n c.home_of.result c.home_of.ensures c.args.k (same_no c.home_of.result c.args.k c.if-eq.ensures)
     (operation_walk c.requires.sound_store.sound.linked (reg, c.args.n) (op, c.args.k) c.requires.live_2 c.live_count.result c.live_count.ensures.is false refl c.if-operation_in.ensures)
-    c.row_length.result c.row_length.ensures (omega (arith, c.if-row_length-ge-MOST_REGIONS.false))
+    c.row_length.result c.row_length.ensures (omega (arith, c.if-row_length-ge-MOST_LISTED.false))

@@ -1,6 +1,6 @@
 -- An end. Assumes nothing.
 use Rattle.std.proofs.Common.{◌≡◌, ◌-◌, ◌<◌, arith}
-use Rattle.table.specs.Table.{count, order, stamp}
+use Rattle.table.specs.Table.{count, order}
 use Rattle.table.proofs.Laws.{at_rank, ordered}
 use Rattle.table.proofs.Cells.{shifted_is, ended}
 use Rattle.table.proofs.end.Goals as goal
@@ -11,7 +11,7 @@ at : (c : After-rank-k) → (c.rank-k.result < count c.args.t.now) × (order c.a
 at c =
     let T = c.requires.0 in
     let t = c.args.t.now in
-    at_rank c.args.n t c.args.p (stamp c.args.n t c.args.p - 1) _ (ordered T) (T.found _ c.requires.1.0 c.requires.1.1) (omega (arith, c.requires.1.1)) c.rank-k.ensures
+    at_rank c.args.n t c.args.p (c.stamp_at.result - 1) _ (ordered T) (T.found _ c.requires.1.0 c.requires.1.1) (omega (arith, c.requires.1.1, c.stamp_at.ensures)) c.rank-k.ensures
 
 pub returns : goal.returns
 returns c =

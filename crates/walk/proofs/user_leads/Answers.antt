@@ -1,24 +1,20 @@
 use mathlib.Core.Path.{◌≡◌, ◌∙◌}
 use Rattle.std.proofs.Common.{rules, Some}
 use Prim.Native.Nat.{ℕ}
-use Rattle.places.specs.Store.{op, blk, Live}
+use Rattle.places.specs.Store.{blk, Live}
 use Rattle.places.specs.Verdict.{place_leads_to}
 use Rattle.context.specs.Memory.{state_of}
-use Rattle.context.proofs.Places.{place<}
-use Rattle.context.proofs.Users.{user_live}
-use Rattle.walk.proofs.JudgeLaws.{tested, op_in_live, leads_none, leads_some}
+use Rattle.context.proofs.Users.{block_live}
+use Rattle.walk.proofs.JudgeLaws.{tested, leads_none, leads_some}
 use Rattle.walk.proofs.user_leads.Goals as goal
-
-pub home_of-requires-clause-n_bound : goal.home_of-requires-clause-n_bound
-home_of-requires-clause-n_bound c = place< c.requires.0 (op, c.user_of-o.result) (user_live c.requires.0 c.args.u c.user_of-o.result c.requires.2 c.user_of-o.ensures)
 
 pub is_some_and-requires : goal.is_some_and-requires
 is_some_and-requires c =
-    let lives : (p : ℕ) → c.home_of.result ≡ Some p → Live (state_of c.args.l c.args.m.now) (blk, p) = λ p e. op_in_live c.requires.0 c.user_of-o.result c.home_of.ensures e in
+    let lives : (p : ℕ) → c.block_of.result ≡ Some p → Live (state_of c.args.l c.args.m.now) (blk, p) = λ p e. block_live c.requires.0 c.block_of.ensures e in
     search (c.requires, lives, rules)
 
 pub returns : goal.returns
 returns c =
-    tested c.home_of.result c.is_some_and.ensures
-    (leads_none c.requires.0 c.args.b c.user_of-o.ensures c.home_of.ensures)
-    (λ p e q. let t : c.is_some_and.result ≡ place_leads_to (state_of c.args.l c.args.m.now) (blk, c.args.b) (blk, p) = search (q, rules) in t ∙ leads_some c.requires.0 c.args.b c.user_of-o.ensures c.home_of.ensures e)
+    tested c.block_of.result c.is_some_and.ensures
+    (leads_none c.requires.0 c.args.b c.block_of.ensures)
+    (λ p e q. let t : c.is_some_and.result ≡ place_leads_to (state_of c.args.l c.args.m.now) (blk, c.args.b) (blk, p) = search (q, rules) in t ∙ leads_some c.requires.0 c.args.b c.block_of.ensures e)

@@ -8,10 +8,9 @@ use Rattle.places.specs.Store.{Fam, Thing}
 use Rattle.places.specs.Parts.{node_in}
 use Rattle.context.specs.declared.Layout.{Layout}
 use Rattle.context.specs.Memory.{SoundStore, FirstIs}
-use Rattle.context.specs.Reading.{NextIs}
+use Rattle.context.specs.Reading.{NextIs, AtLive, AnyOf}
 use Rattle.context.proofs.Cursor.{At, first_at, here, next_at}
 use Rattle.context.proofs.Search.{Searching, searching, hit, miss, over}
-use Rattle.walk.specs.Tests.{AtLive, AnyOf}
 
 -- what a call says of the places, t says of the things
 abbrev pub Agrees : Layout → Fam → List ℕ → (ℕ → Bool → Type 0) → (Thing → Bool) → Type 0

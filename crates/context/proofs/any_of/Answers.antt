@@ -1,6 +1,6 @@
 use Rattle.context.proofs.Cursor.{here, next_less}
-use Rattle.walk.proofs.Calling.{calling, passed, failed, none_passed}
-use Rattle.walk.proofs.any_of.Goals as goal
+use Rattle.context.proofs.Calling.{calling, passed, failed, none_passed}
+use Rattle.context.proofs.any_of.Goals as goal
 
 pub loop-next-init : goal.loop-next-init
 loop-next-init g c = calling _ c.first_of-next.ensures

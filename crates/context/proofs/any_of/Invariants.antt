@@ -1,7 +1,7 @@
 use Rattle.context.specs.Kinds.{fam_of}
 use Rattle.context.proofs.Cursor.{ahead}
-use Rattle.walk.proofs.Calling.{Calling}
-use Rattle.walk.proofs.any_of.Given as goal
+use Rattle.context.proofs.Calling.{Calling}
+use Rattle.context.proofs.any_of.Given as goal
 
 abbrev pub invariant-loop-next : goal.invariant-loop-next
 invariant-loop-next g l = Calling l.l (fam_of l.f) l.k l.m l.next (goal.F-post g l.test)

@@ -25,7 +25,7 @@ ENUMS = {"Kind", "Family", "Member"}
 # Nor does an option, or a refusal: a place, and a number that is none; a code, which is 0 for none.
 RESULTS = {
     "Option<usize>": ("usize", "match r {\n        Some(p) => p,\n        None => 4294967295,\n    }"),
-    "Result<(), Refusal>": ("u32", "match r {\n        Ok(_) => 0,\n        Err(refusal) => refusal.number(),\n    }"),
+    "Result<(), Refusal>": ("u32", "match r {\n        Ok(_) => 0,\n        Err(refusal) => u32::from(refusal),\n    }"),
 }
 
 

@@ -82,10 +82,22 @@ impl Bench {
         (0..CALLS).map(|_| self.any(kind)).collect()
     }
 
+    /// CALLS places of operations that have an operand.
+    fn with_operands(&mut self) -> Vec<usize> {
+        let (m, n, l) = (self.words.as_ptr(), self.words.len(), self.layout);
+        let has_operand = |&o: &usize| unsafe { primitive_row_length_slots(m, n, l, 2 * o) } > 0;
+        std::iter::repeat_with(|| self.any(OPS)).filter(has_operand).take(CALLS).collect()
+    }
+
     fn look_up<T>(&mut self, what: &'static str, kind: usize, f: impl Fn(*const u32, usize, Layout, usize) -> T) {
+        self.look_up_at(what, |bench| bench.places(kind), f);
+    }
+
+    /// A look-up at the places that are chosen for it.
+    fn look_up_at<T>(&mut self, what: &'static str, choose: impl Fn(&mut Self) -> Vec<usize>, f: impl Fn(*const u32, usize, Layout, usize) -> T) {
         let mut samples = Samples::default();
         for _ in 0..ROUNDS {
-            let (places, m, l) = (self.places(kind), &self.words, self.layout);
+            let (places, m, l) = (choose(self), &self.words, self.layout);
             samples.add(clock(|| places.iter().for_each(|&p| drop(black_box(f(m.as_ptr(), m.len(), l, p))))));
         }
         self.lines.push(Line { what, ns: samples.median() / CALLS as f64 });
@@ -131,7 +143,7 @@ impl Bench {
         self.look_up("`home_of` a use: its definition", 4, |m, n, l, p| unsafe { primitive_home_of_use_sets(m, n, l, p) });
         self.look_up("`home_of` an operation: its block", 0, |m, n, l, p| unsafe { primitive_home_of_operations(m, n, l, p) });
         self.look_up("`row_length` of operands", 0, |m, n, l, p| unsafe { primitive_row_length_slots(m, n, l, 2 * p) });
-        self.look_up("`nth_of` operands, the first", 0, |m, n, l, p| unsafe { primitive_nth_of_slots(m, n, l, 2 * p, 0) });
+        self.look_up_at("`nth_of` operands, the first of those that have one", Self::with_operands, |m, n, l, p| unsafe { primitive_nth_of_slots(m, n, l, 2 * p, 0) });
         self.look_up("`first_of` a use set", 3, |m, n, l, p| unsafe { primitive_first_of_use_sets(m, n, l, p) });
         self.look_up("`last_of` the operations of a block", 1, |m, n, l, p| unsafe { primitive_last_of_operations(m, n, l, p) });
         self.look_up("`next_of` an operation", 0, |m, n, l, p| unsafe { primitive_next_of_operations(m, n, l, p) });

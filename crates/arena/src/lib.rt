@@ -9,15 +9,24 @@
 ghost use Rattle.std.specs.Prelude.{◌≡◌, ◌+◌, ◌-◌, ◌*◌, ◌≤◌, ◌<◌, length, get_or};
 ghost use Rattle.arena.specs.Packed.{Packed, Alive, Bore, Gone, Fresh, Agree, Spare, front, cells, words};
 ghost use Rattle.bits.specs.Map.{lowest};
-ghost use Rattle.table.specs.Table.{Table, Says, next, count, stamp, live, find_in};
+ghost use Rattle.table.specs.Table.{Table, next, count, stamp, live, find_in};
+ghost use Rattle.seqs.specs.Seqs.{Says};
 ghost use Rattle.seqs.specs.Entries.{lookup, places};
 
 // How many cells the table has: the map starts after them.
-fn front_len(n: usize) -> usize
+pub fn front_len(n: usize) -> usize
     requires { n ≤ 16384 }
     ensures { result ≡ cells n }
 {
     2 + n + n
+}
+
+// How many cells an arena of `n` places has: its table's, and two for each 64 places of the map.
+pub fn size(n: usize) -> usize
+    requires { n ≤ 16384 }
+    ensures { result ≡ cells n + words n }
+{
+    front_len(n) + n.div_ceil(64) * 2
 }
 
 // The place of the live thing with this number; nothing where it has ended or was never born.
@@ -73,7 +82,7 @@ fn check_marks(t: &[u32], b: &[u32], n: usize) -> bool
     requires { Table n t.now × (n ≤ 32 * length b.now) }
     ensures { Says result (Agree n t.now b.now) }
 {
-    (0..n).all(|p| bits::mark(b, p) == (table::stamp_at(t, n, p) != 0))
+    (0..n).all(|p| bits::mark(b, p) == table::number_at(t, n, p).is_some())
 }
 
 // Whether no place from `n` on is marked.
@@ -92,7 +101,7 @@ pub fn check(m: &[u32], n: usize) -> bool
         return false;
     }
     let front = front_len(n);
-    m.len() == front + (n + 63) / 64 * 2
+    m.len() == size(n)
         && table::check_table(&m[..front], n)
         && check_spare(&m[front..], n)
         && check_marks(&m[..front], &m[front..], n)
@@ -107,11 +116,11 @@ pub fn taken(m: &[u32], n: usize) -> usize
 }
 
 // The next birth number.
-pub fn upcoming(m: &[u32], n: usize) -> usize
+pub fn upcoming(m: &[u32], n: usize) -> u32
     requires { Packed n m.now }
     ensures { result ≡ next (front n m.now) }
 {
-    m[0] as usize
+    m[0]
 }
 
 // Whether a thing lives at place `p`.
@@ -119,15 +128,15 @@ pub fn is_live(m: &[u32], n: usize, p: usize) -> bool
     requires { Packed n m.now }
     ensures { Says result (Alive n m.now p) }
 {
-    p < n && table::stamp_at(&m[..front_len(n)], n, p) != 0
+    p < n && table::number_at(&m[..front_len(n)], n, p).is_some()
 }
 
 // The birth number of the thing at place `p`.
-pub fn number_at(m: &[u32], n: usize, p: usize) -> usize
+pub fn number_at(m: &[u32], n: usize, p: usize) -> u32
     requires { Packed n m.now × Alive n m.now p }
     ensures { result ≡ lookup (live n (front n m.now)) p }
 {
-    table::stamp_at(&m[..front_len(n)], n, p) - 1
+    table::number_at(&m[..front_len(n)], n, p).unwrap()
 }
 
 // The place of the `k`-th thing alive, by rising birth number.

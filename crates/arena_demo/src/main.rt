@@ -30,7 +30,7 @@ fn try_birth(m: &mut [u32], n: usize) -> Result<usize, Lack>
     if n <= arena::taken(m, n) {
         return Err(Lack::Place);
     }
-    if u32::MAX as usize <= arena::upcoming(m, n) {
+    if arena::upcoming(m, n) == u32::MAX {
         return Err(Lack::Number);
     }
     Ok(arena::birth(m, n))

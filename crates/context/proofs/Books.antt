@@ -2,7 +2,7 @@
 use mathlib.Core.Path.{◌≡◌, refl, sym, ap, ◌∙◌}
 use mathlib.Core.Logic.{by_cases, if_pos, if_neg}
 use mathlib.Core.List.{List}
-use Prim.Native.Nat.{ℕ, ◌+◌, ◌-◌, ◌≤◌, ◌<◌}
+use Prim.Native.Nat.{ℕ, ◌+◌, ◌-◌, ◌<◌}
 use native.Mathlib.Decide.{ℕ_discrete, dec_lt}
 use native.Mathlib.Numerals.{add-one}
 use native.Mathlib.Omega.{arith}
@@ -27,7 +27,7 @@ use Rattle.context.specs.Layout.{cap_of, nc_of, nn_of, sizes, arena, kind_part, 
 use Rattle.context.specs.Memory.{part, book_in, rows_in, homes_in, parts_of, rows_for, state_of, Well, Borne, Finished, Finds, RoomFor, RoomIs}
 use Rattle.context.specs.Reading.{NumberIs, LiveIs, NextNumberIs, NthLiveIs}
 use Rattle.context.proofs.Pieces.{Swapped, lent, swap, there, elsewhere, well_table, fam_part<, kind_part<, kind_part_inj, tags_kept}
-use Rattle.table.proofs.Live.{length_live, without_is, live_number, live_stamp, stamp_live, free_dead, found_at, found_none, nth_live}
+use Rattle.table.proofs.Live.{length_live, live_stamp, stamp_live, free_dead, found_at, found_none, nth_live}
 
 module _ {l : Layout} {m m' s' : List ℕ} (k : Kind) (S : Swapped l (kind_part k) s' m m') where
   abbrev M : Parts
@@ -132,13 +132,6 @@ module _ {l : Layout} {m : List ℕ} {k : Kind} {r : Table} (W : Well l m) (T : 
   unfolding store parts_of
   number_is g = record { is = rw (seen, T.capacity) at g }
 
-  pub number_small : (p : ℕ) {x : ℕ} → Live (state_of l m) (k, p) → x ≡ lookup (live r.places (front r.places given)) p → x ≤ 4294967295
-  unfolding alive store parts_of
-  number_small p {x} h g =
-      let e : x ≡ lookup (live n (front n s)) p = rw (seen, T.capacity) at g in
-      let W' = (W.tables k).table in
-      omega (arith, e, live_number W' p h, W'.below p (live_stamp W' p h).0, W'.fresh)
-
   pub live_is : {x : ℕ} → x ≡ lives (front r.places given) → LiveIs l k m x
   live_is {x} h =
       let e : x ≡ lives (front n s) = rw (seen, T.capacity) at h in
@@ -146,11 +139,6 @@ module _ {l : Layout} {m : List ℕ} {k : Kind} {r : Table} (W : Well l m) (T : 
 
   pub next_number_is : {x : ℕ} → x ≡ next (front r.places given) → NextNumberIs l k m x
   next_number_is h = record { is = next_is h }
-
-  pub next_small : {x : ℕ} → x ≡ next (front r.places given) → x ≤ 4294967295
-  next_small {x} h =
-      let e : x ≡ next (front n s) = rw (seen, T.capacity) at h in
-      omega (arith, e, (W.tables k).table.fresh)
 
   pub nth_asked : {i : ℕ} → i < length ((state_of l m).tab k).order → Packed r.places given × (i < lives (front r.places given))
   unfolding store parts_of
@@ -242,7 +230,7 @@ module _ {l : Layout} {m : List ℕ} {k : Kind} {r : Table} (W : Well l m) (T : 
       state_gone : state_of l m' ≡ end (k, p) (state_of l m)
       unfolding store parts_of
       state_gone =
-          ap (store (rows_for l)) (parts_gone k S p bare (λ i. record { cap = n; next = G.number i; live = (G.lives ∙ without_is p (live n (front n s))) i }))
+          ap (store (rows_for l)) (parts_gone k S p bare (λ i. record { cap = n; next = G.number i; live = G.lives i }))
           ∙ book_end_lem (rows_for l) (parts_of l (split (sizes l) m)) (k, p)
 
       spare_gone : (a : Thing) → alive (state_of l m') a ≡ 0 → (state_of l m').tag a ≡ 0

@@ -1,34 +1,48 @@
 -- A search through one list of the store for what passes a test that is called. Assumes nothing.
-use mathlib.Core.Path.{◌≡◌, sym}
-use mathlib.Core.Bool.{Bool, true, false}
-use mathlib.Core.List.{List}
-use Prim.Native.Nat.{ℕ}
-use Rattle.std.specs.Prelude.{Option, None, Some}
-use Rattle.places.specs.Store.{Fam, Thing}
+use mathlib.Core.Path.{◌≡◌, refl, sym, ap, ◌∙◌}
+use mathlib.Core.Bool.{Bool, true, false, ◌||◌}
+use mathlib.Core.List.{List, [], ◌∷◌}
+use Prim.Native.Nat.{ℕ, zero, suc, ◌<◌}
+use native.Mathlib.Omega.{arith}
+use lib.ListN.{length, get_or}
+use Rattle.std.specs.List.{IsAnyAnswer}
+use Rattle.rules.specs.Table.{any}
+use Rattle.places.specs.Store.{Fam, Thing, Live}
 use Rattle.places.specs.Parts.{node_in}
 use Rattle.context.specs.declared.Layout.{Layout}
-use Rattle.context.specs.Memory.{SoundStore, FirstIs}
-use Rattle.context.specs.Reading.{NextIs, AtLive, AnyOf}
-use Rattle.context.proofs.Cursor.{At, first_at, here, next_at}
-use Rattle.context.proofs.Search.{Searching, searching, hit, miss, over}
+use Rattle.context.specs.Memory.{state_of, SoundStore}
+use Rattle.context.specs.Reading.{NodesAre, AtLive, AnyOf}
+use Rattle.context.proofs.Rest.{nodes, Rest, rest_all, first_here, rest_on}
 
--- what a call says of the places, t says of the things
-abbrev pub Agrees : Layout → Fam → List ℕ → (ℕ → Bool → Type 0) → (Thing → Bool) → Type 0
-Agrees l f m Says t = AtLive l f m (λ p. (b : Bool) → Says p b → b ≡ t (node_in f, p))
+module _ {l : Layout} {f : Fam} {s : ℕ} {m : List ℕ} (S : SoundStore l m) where
+  live_of : (k : List ℕ) → Rest l f s m k → (i x : ℕ) → i < length k → x ≡ get_or k i x → Live (state_of l m) (node_in f, x)
+  live_of [] R i x h e = absurd (omega arith)
+  live_of (p ∷ k) R zero x h e = rw e (first_here R S).live
+  live_of (p ∷ k) R (suc i) x h e = live_of k (rest_on R) i x (omega arith) e
 
-pub record Calling (l : Layout) (f : Fam) (s : ℕ) (m : List ℕ) (k : Option ℕ) (Says : ℕ → Bool → Type 0) : Type 0 where
-  pub at : At l f s m k
-  pub left : (t : Thing → Bool) → Agrees l f m Says t → Searching l f s m k t
+  -- what is called at lives
+  pub called_live : {k : List ℕ} → NodesAre l f s m k → (i x : ℕ) → i < length k → x ≡ get_or k i x → Live (state_of l m) (node_in f, x)
+  called_live {k} N i x h e = live_of k (rest_all N) i x h e
 
-pub calling : {l : Layout} {f : Fam} {s : ℕ} {m : List ℕ} {k : Option ℕ} (Says : ℕ → Bool → Type 0) → FirstIs l f s m k → Calling l f s m k Says
-calling Says F = record { at = first_at F; left = λ t A. searching t F }
+  module _ (Says : ℕ → Bool → Type 0) (t : Thing → Bool) (A : AtLive l f m (λ p. (b : Bool) → Says p b → b ≡ t (node_in f, p))) where
+    one_passed : (k : List ℕ) → Rest l f s m k → (i : ℕ) → i < length k → ((d : ℕ) → Says (get_or k i d) true) → true ≡ any t (nodes f k)
+    unfolding any
+    one_passed [] R i h q = absurd (omega arith)
+    one_passed (p ∷ k) R zero h q = ap (λ (b : Bool). b || any t (nodes f k)) (A p (first_here R S).live true (q p))
+    one_passed (p ∷ k) R (suc i) h q = or_true (t (node_in f, p)) (one_passed k (rest_on R) i (omega arith) q)
+      where
+        or_true : (b : Bool) {c : Bool} → true ≡ c → true ≡ (b || c)
+        or_true true e = refl
+        or_true false e = e
 
-module _ {l : Layout} {f : Fam} {s : ℕ} {m : List ℕ} {k : Option ℕ} {Says : ℕ → Bool → Type 0} (S : SoundStore l m) (G : Calling l f s m k Says) where
-  pub passed : {q : ℕ} → k ≡ Some q → Says q true → AnyOf l f s m Says true
-  passed {q} h e = λ t A. hit S (G.left t A) h (sym (A q (here S G.at h).live true e))
+    none_passed : (k : List ℕ) → Rest l f s m k → ((i d : ℕ) → i < length k → Says (get_or k i d) false) → false ≡ any t (nodes f k)
+    unfolding any
+    none_passed [] R q = refl
+    none_passed (p ∷ k) R q =
+        none_passed k (rest_on R) (λ i d h. q (suc i) d (omega arith))
+        ∙ ap (λ (b : Bool). b || any t (nodes f k)) (A p (first_here R S).live false (q 0 p (omega arith)))
 
-  pub failed : {q : ℕ} → k ≡ Some q → Says q false → {j : Option ℕ} → NextIs l f q m j → Calling l f s m j Says
-  failed {q} h e N = record { at = next_at S G.at h N; left = λ t A. miss S (G.left t A) h (sym (A q (here S G.at h).live false e)) N }
-
-  pub none_passed : k ≡ None → AnyOf l f s m Says false
-  none_passed z = λ t A. over S (G.left t A) z
+  -- what the calls at a list's nodes answer, the test of its things answers
+  pub any_called : {k : List ℕ} (Says : ℕ → Bool → Type 0) (r : Bool) → NodesAre l f s m k → IsAnyAnswer Says k r → AnyOf l f s m Says r
+  any_called {k} Says true N q = λ t A. one_passed Says t A k (rest_all N) q.0 q.1 q.2 ∙ ap (any t) (sym N.are)
+  any_called {k} Says false N q = λ t A. none_passed Says t A k (rest_all N) (λ i d h. q i d (omega arith) h) ∙ ap (any t) (sym N.are)

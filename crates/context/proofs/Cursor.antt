@@ -1,4 +1,4 @@
--- A loop over one list of the store, by its places: where it stands, and its next turn. Assumes nothing.
+-- A loop over one list of the store that may change on the way, by its places: where it stands, and its next turn. Assumes nothing.
 use mathlib.Core.Path.{◌≡◌, refl, sym, ap, ◌∙◌, subst}
 use mathlib.Core.Logic.{◌≢◌, ite, if_pos, if_neg, by_cases}
 use mathlib.Core.List.{List, [], ◌∷◌, ◌++◌}

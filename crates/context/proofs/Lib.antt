@@ -1,5 +1,6 @@
 pub mod Pieces
 pub mod Families
+pub mod Numbers
 pub mod Thin
 pub mod Neighbours
 pub mod Marks
@@ -12,7 +13,6 @@ pub mod OpLaws
 pub mod Starting
 pub mod Begun
 pub mod Dropping
-pub mod Every
 pub mod Sparing
 pub mod Checking
 pub mod ValueLaws
@@ -25,4 +25,5 @@ pub mod Performing
 pub mod Cursor
 pub mod Search
 pub mod Users
+pub mod Rest
 pub mod Calling

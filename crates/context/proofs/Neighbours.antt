@@ -9,7 +9,8 @@ use native.Mathlib.Omega.{arith}
 use lib.ListN.{length, get_or, take, drop}
 use Rattle.seqs.specs.Split.{split}
 use Rattle.seqs.specs.Seqs.{seq_last_of}
-use Rattle.linked_list.specs.Links.{decoded, at, home, lists, Linked, Free, Held, row_of, next_in, last_in}
+use Rattle.seqs.specs.Cells.{decoded}
+use Rattle.linked_list.specs.Links.{at, home, lists, Linked, Free, Held, row_of, next_in, last_in}
 use Rattle.linked_list.proofs.Laws.{at_inj, at_lt}
 use Rattle.linked_list.proofs.View.{Seat, seat}
 use Rattle.linked_list.proofs.Getters.{cells, decoded_at, at_get_d}
@@ -20,7 +21,7 @@ use Rattle.context.specs.declared.Layout.{Layout}
 use Rattle.context.specs.declared.Span.{Span}
 use Rattle.context.specs.Layout.{nc_of, nn_of, sizes, fam_part, SpanOf}
 use Rattle.context.specs.Memory.{part, decode, parts_of, con, state_of, first_place, Well}
-use Rattle.context.specs.Reading.{list_of, last_place, NextIs, LastIs, NthIs}
+use Rattle.context.specs.Reading.{list_of, last_place, NextIs, NodesAre, LastIs, NthIs}
 use Rattle.context.proofs.Families.{node<, con_back, list_at, own_is, stands, free}
 use Rattle.context.proofs.Thin.{length_map, seen}
 
@@ -131,6 +132,9 @@ module _ {l : Layout} {m : List ℕ} {f : Fam} {r : Span} (W : Well l m) (T : Sp
   pub nth_asked : (k : ℕ) {i : ℕ} → i < length (list_of l m (con l f k)) → i < length (get_or (lists r.lists.nc r.lists.nn given) k [])
   nth_asked k g =
       rw (seen W T, T.containers, T.nodes) (omega (arith, g, ap length (list_row W f k), length_map {B = Thing} (λ (j : ℕ). (node_in f, j)) (get_or (lists (nc_of l f) (nn_of l f) (part l m (fam_part f))) k [])))
+
+  pub nodes_are : {k : ℕ} {x : List ℕ} → x ≡ get_or (lists r.lists.nc r.lists.nn given) k [] → NodesAre l f k m x
+  nodes_are {k} {x} g = record { are = list_row W f k ∙ ap (λ (t : List ℕ). map (λ (j : ℕ). (node_in f, j)) t) (sym (rw (seen W T, T.containers, T.nodes) at g)) }
 
   module _ {n : ℕ} (h : n < nn_of l f) where
     pub next_is : {x : Option ℕ} → x ≡ next_in n (row_of n (lists r.lists.nc r.lists.nn given)) → NextIs l f n m x

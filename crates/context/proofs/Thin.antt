@@ -8,7 +8,8 @@ use native.Mathlib.Decide.{ℕ_discrete}
 use native.Mathlib.Omega.{arith}
 use lib.ListN.{length, get_or, take, drop}
 use Rattle.seqs.specs.Split.{split, splice}
-use Rattle.linked_list.specs.Links.{decoded, home, lists, Linked, Rowed, row, container, list_of, HomeIn}
+use Rattle.seqs.specs.Cells.{decoded}
+use Rattle.linked_list.specs.Links.{home, lists, Linked, Rowed, row, container, list_of, HomeIn}
 use Rattle.linked_list.proofs.Getters.{home_cell}
 use Rattle.linked_list.proofs.View.{row_short}
 use Rattle.seqs.specs.Seqs.{without, seq_insert_at}

@@ -8,18 +8,18 @@ use mathlib.Core.Option.{none, some}
 use Rattle.std.specs.Prelude.{Option, Some, None, is_none as gone?}
 use native.Mathlib.Decide.{ℕ_discrete, dec_lt}
 use native.Mathlib.Omega.{arith}
-use Prim.Native.Nat.{ℕ, ◌+◌, ◌-◌, ◌/◌, ◌%◌, ◌<◌}
+use Prim.Native.Nat.{ℕ, ◌+◌, ◌-◌, ◌/◌, ◌%◌, ◌≤◌, ◌<◌}
 use Rattle.places.specs.Store.{op, blk, val, usg, operands, successors, value_uses, block_uses, ops, Fam, slots, use_sets, ops_in, Thing, Con, State, Live, outer, up}
 use Rattle.places.specs.Parts.{node_in, rows_of, con_of}
+use Rattle.places.specs.View.{num}
 use Rattle.places.specs.Verdict.{place_stray_user}
 use Rattle.rules.specs.Table.{any, some_and, is_some}
 use Rattle.places.proofs.Steps.{some_inj, some_none, up_live}
 use Rattle.context.specs.declared.Layout.{Layout}
-use Rattle.context.specs.Layout.{nc_of}
-use Rattle.context.specs.Memory.{con, state_of, given, SoundStore, HomeIs}
-use Rattle.context.specs.Reading.{UserIs, block_by, BlockOf}
-use Rattle.context.proofs.Places.{place<}
+use Rattle.context.specs.Memory.{con, ListIs, state_of, given, SoundStore, HomeIs}
+use Rattle.context.specs.Reading.{NumberIs, DefinitionIs, UserIs, block_by, BlockOf}
 use Rattle.context.proofs.Cursor.{row}
+use Rattle.context.proofs.Numbers.{list_there, value_set, block_set}
 
 -- ---- where things stand
 
@@ -58,17 +58,32 @@ module _ {l : Layout} {m : List ℕ} (S : SoundStore l m) where
       go none e q = absurd (some_none q refl)
       go (some c) e q = subst (λ (y : Thing). Live P y) (some_inj q) (S.sound.linked.link (usg, u) slots c e).home
 
+  -- ---- the definition of a use
+
+  module _ {u d : ℕ} {h : Option ℕ} (H : HomeIs l use_sets u m h) (e : h ≡ Some d) where
+    definition_live : Live P (con l use_sets d).1
+    definition_live = (S.sound.linked.link (usg, u) use_sets (con l use_sets d) (around_some H e)).home
+
+    same_number : {r : ℕ} {a : Thing} → (con l use_sets d).1 ≡ a → r ≡ num P a → DefinitionIs l u m r
+    same_number q i = record { is = λ c o. i ∙ ap (num P) (sym q) ∙ ap (λ (x : Con). num P x.1) (some_inj (sym (around_some H e) ∙ o)) }
+
+    module _ (v : d < l.values) where
+      pub value_live : Live P (val, d)
+      value_live = subst (λ (c : Con). Live P c.1) (value_set l d v) definition_live
+
+      pub value_number : {r : ℕ} → NumberIs l val d m r → DefinitionIs l u m r
+      value_number N = same_number (ap (λ (c : Con). c.1) (value_set l d v)) N.is
+
+    module _ (v : l.values ≤ d) where
+      pub block_holds : Live P (blk, d - l.values)
+      block_holds = subst (λ (c : Con). Live P c.1) (block_set l d v) definition_live
+
+      pub block_number : {r : ℕ} → NumberIs l blk (d - l.values) m r → DefinitionIs l u m r
+      block_number N = same_number (ap (λ (c : Con). c.1) (block_set l d v)) N.is
+
   -- the block of a use lives
   pub block_live : {u b : ℕ} {r : Option ℕ} → BlockOf l u m r → r ≡ Some b → Live P (blk, b)
   block_live {b = b} B e = up_live S.sound.linked B.user (blk, b) (B.is ∙ ap block_by e)
-
-  -- ---- the uses of a block
-
-  pub users : (b : ℕ) → row l use_sets (l.values + b) m ≡ P.list (blk, b) block_uses
-  users b = ap (λ (c : Con). P.list c.1 c.0) (con_block_uses l b)
-
-  pub set_row_lem : (b : ℕ) → Live P (blk, b) → l.values + b < nc_of l use_sets
-  set_row_lem b v = omega (arith, place< S (blk, b) v)
 
 -- ---- the block of a use's operation
 
@@ -96,6 +111,6 @@ astray {l} {m} {u} {r} B = go r ∙ sym (ap (λ (o : math.Option Thing). not (so
     go None = refl
     go (Some b) = refl
 
-pub stray_is : {l : Layout} {m : List ℕ} (S : SoundStore l m) (b : ℕ) → any (stray? (state_of l m)) (row l use_sets (l.values + b) m) ≡ place_stray_user (state_of l m) (blk, b)
+pub stray_is : {l : Layout} (m : List ℕ) {b k : ℕ} → ListIs l use_sets (block_uses, (blk, b)) k → any (stray? (state_of l m)) (row l use_sets k m) ≡ place_stray_user (state_of l m) (blk, b)
 unfolding place_stray_user
-stray_is {l} {m} S b = ap (any (stray? (state_of l m))) (users S b)
+stray_is {l} m L = ap (any (stray? (state_of l m))) (list_there L m)

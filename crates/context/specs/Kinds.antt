@@ -6,6 +6,7 @@ use Rattle.edit.specs.Kinds.{member_of}
 use Rattle.places.specs.Store as P
 use Rattle.places.specs.Store.{Fam, fam}
 use Rattle.places.specs.Members.{role_of}
+use Rattle.places.specs.Parts.{node_in}
 use Rattle.places.specs.Roles as R
 use Rattle.context.specs.declared.Kind.{Kind}
 use Rattle.context.specs.declared.Kind.TheVariants.{Operation, Block, Region, Value, Use}
@@ -41,6 +42,10 @@ IsMemberFamily w f = fam_of f ≡ member_fam w
 
 abbrev pub IsNested : Nested → Kind → Type 0
 IsNested n k = kind_of k ≡ nested_kind n
+
+-- what stands in the lists of a family
+abbrev pub IsNode : Family → Kind → Type 0
+IsNode f k = kind_of k ≡ node_in (fam_of f)
 
 abbrev pub IsInnerFamily : Nested → Family → Type 0
 IsInnerFamily n f = fam_of f ≡ inner_fam n

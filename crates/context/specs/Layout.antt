@@ -88,11 +88,7 @@ pub record Caps (l : Layout) : Type 0 where
   pub some_values : 0 < l.values
   pub some_uses : 0 < l.uses
 
--- r is half the size of a table; where the families start
-pub record HalfSize (n r : ℕ) : Type 0 where
-  pub is : 2 * r ≡ arena n
-  pub small : r ≤ 20000
-
+-- where the families start
 pub record FamiliesAt (l : Layout) (r : ℕ) : Type 0 where
   pub is : r ≡ start (sizes l) 6
   pub small : r ≤ 300000

@@ -60,6 +60,11 @@ rows_for l = rows_of l.values l.ops
 abbrev pub con : Layout → Fam → ℕ → Con
 con l f k = (rows_for l).con f k
 
+-- k is the number of the list c among those of its family
+pub record ListIs (l : Layout) (f : Fam) (c : Con) (k : ℕ) : Type 0 where
+  pub row : con l f k ≡ c
+  pub inside : k < nc_of l f
+
 abbrev pub state_of : Layout → List ℕ → State
 state_of l m = store (rows_for l) (parts_of l (split (sizes l) m))
 

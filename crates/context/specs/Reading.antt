@@ -1,10 +1,10 @@
 -- What the readers of lists and tables say of the store by places.
 -- Assumes nothing: these are definitions.
-use Rattle.std.specs.Prelude.{◌≡◌, Option, Some, None, Bool, List, [], ◌∷◌, ◌++◌, ℕ, ◌+◌, ◌≤◌, ◌<◌, length, get_or}
+use Rattle.std.specs.Prelude.{◌≡◌, Option, Some, None, Bool, List, [], ◌∷◌, ◌++◌, map, ℕ, ◌+◌, ◌≤◌, ◌<◌, length, get_or}
 use Rattle.std.proofs.Math.Option as math
 use Rattle.std.proofs.Math.Option.{none, some}
 use Rattle.seqs.specs.Seqs.{seq_last_of}
-use Rattle.places.specs.Store.{Kind, op, blk, usg, Fam, slots, Thing, Con, Live, outer, up, enter}
+use Rattle.places.specs.Store.{Kind, op, blk, usg, Fam, slots, use_sets, Thing, Con, Live, outer, up, enter}
 use Rattle.places.specs.Parts.{node_in}
 use Rattle.places.specs.View.{num}
 use Rattle.rules.specs.Table.{any}
@@ -25,6 +25,10 @@ last_place (x ∷ xs) = Some (seq_last_of x xs).1
 pub record NextIs (l : Layout) (f : Fam) (n : ℕ) (m : List ℕ) (r : Option ℕ) : Type 0 where
   pub none : (state_of l m).own (node_in f, n) f ≡ none → r ≡ None
   pub after : (c : Con) → (state_of l m).own (node_in f, n) f ≡ some c → (a b : List Thing) → list_of l m c ≡ a ++ (node_in f, n) ∷ b → r ≡ first_place b
+
+-- r is the places of the nodes of the list k of the family f, from first to last
+pub record NodesAre (l : Layout) (f : Fam) (k : ℕ) (m : List ℕ) (r : List ℕ) : Type 0 where
+  pub are : list_of l m (con l f k) ≡ map (λ (p : ℕ). (node_in f, p)) r
 
 -- r is the last of the list k of the family f
 pub record LastIs (l : Layout) (f : Fam) (k : ℕ) (m : List ℕ) (r : Option ℕ) : Type 0 where
@@ -65,6 +69,10 @@ pub record NthLiveIs (l : Layout) (k : Kind) (i : ℕ) (m : List ℕ) (r : ℕ) 
 -- r is the flags or the type of the thing a
 pub record TagIs (l : Layout) (a : Thing) (m : List ℕ) (r : ℕ) : Type 0 where
   pub is : r ≡ (state_of l m).tag a
+
+-- r is the number of what the use at the place u is a use of
+pub record DefinitionIs (l : Layout) (u : ℕ) (m : List ℕ) (r : ℕ) : Type 0 where
+  pub is : (d : Con) → (state_of l m).own (usg, u) use_sets ≡ some d → r ≡ num (state_of l m) d.1
 
 -- r is the operation at which the use at the place u stands
 pub record UserIs (l : Layout) (u : ℕ) (m : List ℕ) (r : ℕ) : Type 0 where

@@ -7,7 +7,8 @@ ghost use Rattle.context.specs.Steps.{BorneBlock, CanEnd, Ended};
 
 use super::lists::detach;
 use super::value::block_of;
-use super::{Family, Kind, Layout, any_of, bear, finish};
+use super::{Family, Kind, Layout, any_of, bear, finish, use_set_of};
+use edit::Slot;
 
 // A block is born, in no region and with empty lists.
 pub fn birth_block(m: &mut [u32], l: Layout) -> usize
@@ -38,7 +39,7 @@ pub fn stray_user(m: &[u32], l: Layout, b: usize) -> bool
         m,
         l,
         Family::UseSets,
-        l.values + b,
+        use_set_of(l, Slot::Successor, b),
         |u| block_of(m, l, u).is_none(),
     )
 }

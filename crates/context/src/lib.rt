@@ -9,28 +9,22 @@ pub mod basic_block; // basic_block.rt
 pub mod region; // region.rt
 
 ghost use Rattle.std.specs.Prelude.{◌≡◌, ◌≤◌, ◌<◌, length};
-ghost use Rattle.edit.specs.Kinds.{number_of};
+ghost use Rattle.edit.specs.Kinds.{number_of, slot_of, member_of};
 ghost use Rattle.linked_list.specs.Links.{Sizes};
-ghost use Rattle.places.specs.Store.{Live, op, val};
-ghost use Rattle.places.specs.Roles.{missing_code};
-ghost use Rattle.context.specs.Kinds.{kind_of, fam_of, IsNested, IsMember, IsMemberFamily, IsInnerFamily};
-ghost use Rattle.context.specs.Layout.{cap_of, nc_of, nn_of, total, Caps, HalfSize, TableAt, FamilyAt, FamiliesAt, SpanOf, RoomOf, TagsAt, TotalIs, HasTag};
-ghost use Rattle.context.specs.Memory.{con, state_of, Well, RoomFor, Borne, Finished, Finds, LooksUp, SoundStore, HomeIs, LengthIs, RoomIs, GrowIs, FirstIs};
-ghost use Rattle.context.specs.Reading.{list_of, NextIs, LastIs, NthIs, NumberIs, LiveIs, NextNumberIs, NthLiveIs, AtLive, AnyOf};
+ghost use Rattle.places.specs.Store.{Live, op, val, slots, use_sets, vals};
+ghost use Rattle.places.specs.Roles.{missing_code, slot_role, def_kind, def_role, value_role, member_kind};
+ghost use Rattle.context.specs.Kinds.{kind_of, fam_of, IsNested, IsMember, IsMemberFamily, IsInnerFamily, IsNode};
+ghost use Rattle.context.specs.Layout.{cap_of, nc_of, nn_of, total, Caps, TableAt, FamilyAt, FamiliesAt, SpanOf, RoomOf, TagsAt, TotalIs, HasTag};
+ghost use Rattle.context.specs.Memory.{con, ListIs, state_of, Well, RoomFor, Borne, Finished, Finds, LooksUp, SoundStore, HomeIs, LengthIs, RoomIs, GrowIs, FirstIs};
+ghost use Rattle.context.specs.Reading.{list_of, NextIs, NodesAre, LastIs, NthIs, NumberIs, LiveIs, NextNumberIs, NthLiveIs, AtLive, AnyOf};
 ghost use Rattle.context.specs.Steps.{Started};
 ghost use Rattle.context.specs.Start.{StartIs, WordsNeeded};
 ghost use Rattle.context.specs.Checked.{Headed, Fits, TableOk, FamilyOk, TablesOk, FamiliesOk, SpareAt, SpareIn, SpareOk};
 ghost use Rattle.arena.specs.Packed.{Packed};
 ghost use Rattle.seqs.specs.Seqs.{Says};
 
-use edit::{Member, Nested, Refusal};
-use linked_list::Lists;
-
-// The most entries of an ordered list.
-pub const MOST_LISTED: usize = 64;
-
-// A table of which so many were born gives no more numbers.
-const LAST_NUMBER: usize = 4294967295;
+use edit::{MOST_LISTED, Member, Nested, Refusal, Slot};
+use linked_list::{Lists, Nodes};
 
 // What lives in a store.
 #[derive(Clone, Copy, PartialEq, Eq)]
@@ -101,6 +95,28 @@ impl From<Nested> for Family {
     }
 }
 
+// The kind of what stands in the lists of a family.
+impl From<Family> for Kind {
+    ghost from_gives = { IsNode };
+
+    fn from(f: Family) -> Kind {
+        match f {
+            Family::Slots | Family::UseSets => Kind::Use,
+            Family::Values => Kind::Value,
+            Family::Regions => Kind::Region,
+            Family::Operations => Kind::Operation,
+            Family::Blocks => Kind::Block,
+        }
+    }
+}
+
+// A thing with an inside, by its kind and its place.
+#[derive(Clone, Copy, PartialEq, Eq)]
+pub struct Thing {
+    pub kind: Nested,
+    pub place: usize,
+}
+
 // Kept (point 5): words and layout stay two parameters: lent by & to readers and by &mut to edits, a struct of them would be two types.
 // The capacities of the five tables.
 #[repr(C)]
@@ -129,14 +145,6 @@ pub struct Span {
     pub lists: Lists,
 }
 
-// Half of the numbers of a table of capacity `n`: the starts of parts are sums of sizes, which are all even, and sums of halves are less work.
-fn half_size(n: usize) -> usize
-    requires { n ≤ 16384 }
-    ensures { HalfSize n result }
-{
-    1 + n + (n + 63) / 64
-}
-
 // The table of `n` places that starts at `at`.
 fn table_at(at: usize, n: usize) -> Table
     requires { (at ≤ 600000) × (n ≤ 16384) }
@@ -144,7 +152,7 @@ fn table_at(at: usize, n: usize) -> Table
 {
     Table {
         at,
-        end: at + 2 * half_size(n),
+        end: at + arena::size(n),
         places: n,
     }
 }
@@ -154,16 +162,16 @@ pub fn table_span(l: Layout, k: Kind) -> Table
     requires { Caps l }
     ensures { RoomOf l (kind_of k) result }
 {
-    let ops = half_size(l.ops);
-    let blocks = half_size(l.blocks);
-    let regions = half_size(l.regions);
-    let values = half_size(l.values);
+    let ops = arena::size(l.ops);
+    let blocks = arena::size(l.blocks);
+    let regions = arena::size(l.regions);
+    let values = arena::size(l.values);
     match k {
         Kind::Operation => table_at(5, l.ops),
-        Kind::Block => table_at(5 + 2 * ops, l.blocks),
-        Kind::Region => table_at(5 + 2 * (ops + blocks), l.regions),
-        Kind::Value => table_at(5 + 2 * (ops + blocks + regions), l.values),
-        Kind::Use => table_at(5 + 2 * (ops + blocks + regions + values), l.uses),
+        Kind::Block => table_at(5 + ops, l.blocks),
+        Kind::Region => table_at(5 + ops + blocks, l.regions),
+        Kind::Value => table_at(5 + ops + blocks + regions, l.values),
+        Kind::Use => table_at(5 + ops + blocks + regions + values, l.uses),
     }
 }
 
@@ -212,6 +220,53 @@ pub fn family_span(l: Layout, f: Family) -> Span
     }
 }
 
+// The kind of what the uses in a slot are uses of.
+pub fn definition_kind(slot: Slot) -> Kind
+    ensures { kind_of result ≡ def_kind (slot_of slot) }
+{
+    match slot {
+        Slot::Operand => Kind::Value,
+        Slot::Successor => Kind::Block,
+    }
+}
+
+// The list of the operands or of the successors of the operation at the place `o`, among those of the slots.
+pub fn slots_of(l: Layout, slot: Slot, o: usize) -> usize
+    requires caps { Caps l }
+    requires o_bound { o < l.ops }
+    ensures { ListIs l slots (slot_role (slot_of slot), (op, o)) result }
+{
+    match slot {
+        Slot::Operand => 2 * o,
+        Slot::Successor => 2 * o + 1,
+    }
+}
+
+// The list of the uses of the value or of the block at the place `p`, among the use sets.
+pub fn use_set_of(l: Layout, slot: Slot, p: usize) -> usize
+    requires caps { Caps l }
+    requires p_bound { p < cap_of l (def_kind (slot_of slot)) }
+    ensures { ListIs l use_sets (def_role (slot_of slot), (def_kind (slot_of slot), p)) result }
+{
+    match slot {
+        Slot::Operand => p,
+        Slot::Successor => l.values + p,
+    }
+}
+
+// The list of the results of the operation or of the arguments of the block at the place `p`, among those of the values.
+pub fn values_of(l: Layout, owner: Member, p: usize) -> usize
+    requires caps { Caps l }
+    requires p_bound { p < cap_of l (member_kind (member_of owner)) }
+    ensures { ListIs l vals (value_role (member_of owner), (member_kind (member_of owner), p)) result }
+{
+    match owner {
+        Member::Operation => p,
+        Member::Block => l.ops + p,
+    }
+}
+
+// Kept (point 2): each function over a table calls another one of the arena, whose promise on cells it states of the store by places; a cut of its own would leave two lines.
 // A thing of the kind `k` is born at the lowest free place.
 pub fn bear(m: &mut [u32], l: Layout, k: Kind) -> usize
     requires well { Well l m.old }
@@ -263,6 +318,7 @@ pub fn look_up(m: &[u32], l: Layout, k: Kind, number: u32) -> Result<usize, Refu
     find(m, l, k, number).ok_or(missing(k))
 }
 
+// Kept (point 2): the same for the families of lists and `Lists`.
 // The list of the family `f` that the node `n` stands in.
 pub fn home_of(m: &[u32], l: Layout, f: Family, n: usize) -> Option<usize>
     requires well { Well l m.now }
@@ -270,7 +326,7 @@ pub fn home_of(m: &[u32], l: Layout, f: Family, n: usize) -> Option<usize>
     ensures { HomeIs l (fam_of f) n m.now result }
 {
     let s = family_span(l, f);
-    s.lists.get_home(&m[s.at..s.end], n)
+    s.lists.get_container(&m[s.at..s.end], n)
 }
 
 // How long the list `k` of the family `f` is.
@@ -324,6 +380,16 @@ pub fn nth_of(m: &[u32], l: Layout, f: Family, k: usize, i: usize) -> usize
     s.lists.nth(&m[s.at..s.end], k, i)
 }
 
+// The places of the nodes of the list `k` of the family `f`, from first to last.
+pub fn nodes(m: &[u32], l: Layout, f: Family, k: usize) -> Nodes<'_>
+    requires well { Well l m.now }
+    requires k_bound { k < nc_of l (fam_of f) }
+    ensures { NodesAre l (fam_of f) k m.now result }
+{
+    let s = family_span(l, f);
+    s.lists.iter(&m[s.at..s.end], k)
+}
+
 // Whether a place of the list `k` of the family `f` passes the test.
 pub fn any_of<F: Fn(usize) -> bool>(m: &[u32], l: Layout, f: Family, k: usize, test: F) -> bool
     requires sound_store { SoundStore l m.now }
@@ -331,14 +397,7 @@ pub fn any_of<F: Fn(usize) -> bool>(m: &[u32], l: Layout, f: Family, k: usize, t
     requires callable { AtLive l (fam_of f) m.now (F.pre test) }
     ensures { AnyOf l (fam_of f) k m.now (F.post test) result }
 {
-    let mut next = first_of(m, l, f, k);
-    while let Some(p) = next {
-        if test(p) {
-            return true;
-        }
-        next = next_of(m, l, f, p);
-    }
-    false
+    nodes(m, l, f, k).any(test)
 }
 
 // Whether a place and a number are left for a birth of the kind `k`.
@@ -351,7 +410,7 @@ pub fn room_for(m: &[u32], l: Layout, k: Kind) -> Result<(), Refusal>
     if arena::taken(s, t.places) >= t.places {
         return Err(Refusal::NoPlace);
     }
-    if arena::upcoming(s, t.places) >= LAST_NUMBER {
+    if arena::upcoming(s, t.places) == u32::MAX {
         return Err(Refusal::NoNumber);
     }
     Ok(())
@@ -378,7 +437,7 @@ pub fn number_of(m: &[u32], l: Layout, k: Kind, p: usize) -> u32
     ensures { NumberIs l (kind_of k) p m.now result }
 {
     let t = table_span(l, k);
-    arena::number_at(&m[t.at..t.end], t.places, p) as u32
+    arena::number_at(&m[t.at..t.end], t.places, p)
 }
 
 // How many things of the kind `k` live.
@@ -396,7 +455,7 @@ pub fn next_number(m: &[u32], l: Layout, k: Kind) -> u32
     ensures { NextNumberIs l (kind_of k) m.now result }
 {
     let t = table_span(l, k);
-    arena::upcoming(&m[t.at..t.end], t.places) as u32
+    arena::upcoming(&m[t.at..t.end], t.places)
 }
 
 // The place of the `i`-th live thing of the kind `k`, in rising number.

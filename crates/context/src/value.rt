@@ -3,11 +3,11 @@ ghost use Rattle.std.specs.Prelude.{◌≡◌, ◌<◌};
 ghost use Rattle.places.specs.Store.{Live, val, usg, vals, use_sets, slots};
 ghost use Rattle.context.specs.Layout.{nc_of};
 ghost use Rattle.context.specs.Memory.{con, state_of, Well, SoundStore, MayTag, Tagged};
-ghost use Rattle.context.specs.Reading.{TagIs, UserIs, BlockOf};
+ghost use Rattle.context.specs.Reading.{TagIs, DefinitionIs, UserIs, BlockOf};
 ghost use Rattle.context.specs.Steps.{CanMove, Moved, EndedUse, CanBear, BorneUse, Unused, EndedValue, CanBearValue, BorneValue};
 
 use super::lists::{enter_at, enter_back, leave};
-use super::{Family, Kind, Layout, bear, finish, home_of, types_at};
+use super::{Family, Kind, Layout, bear, finish, home_of, number_of, types_at};
 
 // The value at the place `p` gets the type `v`; at a free place it is 0.
 pub fn put_type(m: &mut [u32], l: Layout, p: usize, v: u32)
@@ -85,6 +85,20 @@ pub fn end_use(m: &mut [u32], l: Layout, u: usize)
     leave(m, l, Family::Slots, u);
     leave(m, l, Family::UseSets, u);
     finish(m, l, Kind::Use, u);
+}
+
+// The number of the value or of the block that the use at the place `u` is a use of.
+pub fn definition_number(m: &[u32], l: Layout, u: usize) -> u32
+    requires sound_store { SoundStore l m.now }
+    requires live { Live (state_of l m.now) (usg, u) }
+    ensures { DefinitionIs l u m.now result }
+{
+    let d = home_of(m, l, Family::UseSets, u).unwrap();
+    if d < l.values {
+        number_of(m, l, Kind::Value, d)
+    } else {
+        number_of(m, l, Kind::Block, d - l.values)
+    }
 }
 
 // The operation at which the use at the place `u` stands.

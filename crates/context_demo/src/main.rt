@@ -9,7 +9,8 @@ ghost use Rattle.context.specs.Layout.{nc_of};
 ghost use Rattle.context.specs.Memory.{con, state_of, SoundStore};
 
 use context::{Family, Kind, Layout};
-use edit::{Member, Refusal};
+use edit::{Member, Refusal, Slot};
+use listing::Pen;
 use readers::Definition;
 use std::io;
 
@@ -58,7 +59,7 @@ fn push_result(m: &mut [u32], l: Layout, x: u32, t: u32) -> Result<(), Refusal>
     ensures { SoundStore l m.new }
 {
     let o = context::look_up(m, l, Kind::Operation, x)?;
-    push_value(m, l, o, t)
+    push_value(m, l, context::values_of(l, Member::Operation, o), t)
 }
 
 // The block with the number `x` gets an argument of the type `t`.
@@ -67,7 +68,7 @@ fn push_argument(m: &mut [u32], l: Layout, x: u32, t: u32) -> Result<(), Refusal
     ensures { SoundStore l m.new }
 {
     let b = context::look_up(m, l, Kind::Block, x)?;
-    push_value(m, l, l.ops + b, t)
+    push_value(m, l, context::values_of(l, Member::Block, b), t)
 }
 
 // The operation with the number `x` gets an operand: a use of the value with the number `y`.
@@ -77,9 +78,11 @@ fn push_operand(m: &mut [u32], l: Layout, x: u32, y: u32) -> Result<(), Refusal>
 {
     let o = context::look_up(m, l, Kind::Operation, x)?;
     let v = context::look_up(m, l, Kind::Value, y)?;
-    let n = context::row_length(m, l, Family::Slots, 2 * o);
+    let s = context::slots_of(l, Slot::Operand, o);
+    let d = context::use_set_of(l, Slot::Operand, v);
+    let n = context::row_length(m, l, Family::Slots, s);
     context::may_grow(m, l, Kind::Use, n, n)?;
-    context::value::birth_use(m, l, 2 * o, n, v);
+    context::value::birth_use(m, l, s, n, d);
     Ok(())
 }
 
@@ -89,10 +92,11 @@ fn end_operand(m: &mut [u32], l: Layout, x: u32, i: usize) -> Result<(), Refusal
     ensures { SoundStore l m.new }
 {
     let o = context::look_up(m, l, Kind::Operation, x)?;
-    if i >= context::row_length(m, l, Family::Slots, 2 * o) {
+    let s = context::slots_of(l, Slot::Operand, o);
+    if i >= context::row_length(m, l, Family::Slots, s) {
         return Err(Refusal::NoIndex);
     }
-    let u = context::nth_of(m, l, Family::Slots, 2 * o, i);
+    let u = context::nth_of(m, l, Family::Slots, s, i);
     context::value::end_use(m, l, u);
     Ok(())
 }
@@ -115,69 +119,62 @@ fn put_into(m: &mut [u32], l: Layout, x: u32, y: u32) -> Result<(), Refusal>
     Ok(())
 }
 
-// Words, on one line.
-fn words(rt: &impl Print, part: &[u32]) -> io::Result<()> {
+// A name and words, on one line.
+fn words(rt: &impl Print, name: &str, part: &[u32]) -> io::Result<()> {
+    print!(rt; "{name}")?;
     for w in part {
         print!(rt; " {w}")?;
     }
     println!(rt)
 }
 
-// The words of the table of a kind.
-fn table(rt: &impl Print, m: &[u32], l: Layout, name: &str, k: Kind) -> io::Result<()>
-    requires { SoundStore l m.now }
-{
-    print!(rt; "{name}")?;
-    let t = context::table_span(l, k);
-    words(rt, &m[t.at..t.end])
-}
-
-// The words of a family.
-fn family(rt: &impl Print, m: &[u32], l: Layout, name: &str, f: Family) -> io::Result<()>
-    requires { SoundStore l m.now }
-{
-    print!(rt; "{name}")?;
-    let s = context::family_span(l, f);
-    words(rt, &m[s.at..s.end])
-}
-
 fn print_tables(rt: &impl Print, m: &[u32], l: Layout) -> io::Result<()>
     requires { SoundStore l m.now }
 {
-    table(rt, m, l, "operations", Kind::Operation)?;
-    table(rt, m, l, "blocks", Kind::Block)?;
-    table(rt, m, l, "regions", Kind::Region)?;
-    table(rt, m, l, "values", Kind::Value)?;
-    table(rt, m, l, "uses", Kind::Use)
+    let tables = [
+        ("operations", Kind::Operation),
+        ("blocks", Kind::Block),
+        ("regions", Kind::Region),
+        ("values", Kind::Value),
+        ("uses", Kind::Use),
+    ];
+    for (name, k) in tables {
+        let t = context::table_span(l, k);
+        words(rt, name, &m[t.at..t.end])?;
+    }
+    Ok(())
 }
 
 fn print_families(rt: &impl Print, m: &[u32], l: Layout) -> io::Result<()>
     requires { SoundStore l m.now }
 {
-    family(rt, m, l, "slots", Family::Slots)?;
-    family(rt, m, l, "use sets", Family::UseSets)?;
-    family(rt, m, l, "results and arguments", Family::Values)?;
-    family(rt, m, l, "regions of operations", Family::Regions)?;
-    family(rt, m, l, "operations of blocks", Family::Operations)?;
-    family(rt, m, l, "blocks of regions", Family::Blocks)
-}
-
-fn print_tags(rt: &impl Print, m: &[u32], l: Layout) -> io::Result<()>
-    requires { SoundStore l m.now }
-{
-    print!(rt; "flags and types")?;
-    words(rt, &m[context::flags_at(l)..context::size(l)])
+    let families = [
+        ("slots", Family::Slots),
+        ("use sets", Family::UseSets),
+        ("results and arguments", Family::Values),
+        ("regions of operations", Family::Regions),
+        ("operations of blocks", Family::Operations),
+        ("blocks of regions", Family::Blocks),
+    ];
+    for (name, f) in families {
+        let s = context::family_span(l, f);
+        words(rt, name, &m[s.at..s.end])?;
+    }
+    Ok(())
 }
 
 // All words, a line for each part; flags and types are on one.
 fn print_words(rt: &impl Print, m: &[u32], l: Layout) -> io::Result<()>
     requires { SoundStore l m.now }
 {
-    print!(rt; "capacities")?;
-    words(rt, &m[..5])?;
+    words(rt, "capacities", &m[..5])?;
     print_tables(rt, m, l)?;
     print_families(rt, m, l)?;
-    print_tags(rt, m, l)
+    words(
+        rt,
+        "flags and types",
+        &m[context::flags_at(l)..context::size(l)],
+    )
 }
 
 // The listing.
@@ -185,52 +182,44 @@ fn print_listing(rt: &impl Print, m: &[u32], l: Layout) -> io::Result<()>
     requires { SoundStore l m.now }
 {
     let mut out = [0u8; 1024];
-    let r = listing::write_listing(m, l, &mut out, 0);
-    rt.write_all(&out[..r.min(1024)])
+    let mut pen = Pen {
+        out: &mut out,
+        at: 0,
+    };
+    listing::write_listing(m, l, &mut pen);
+    let end = pen.at.min(1024);
+    rt.write_all(&out[..end])
 }
 
-// What a reader handed back: the numbers of the uses, or its refusal.
-fn tell_uses(
+// The numbers of the uses of a definition that have room, or the refusal.
+fn print_uses_of(
     rt: &impl Print,
-    what: &str,
-    n: u32,
-    part: Result<&mut [u32], Refusal>,
+    m: &[u32],
+    name: &str,
+    definition: Definition,
+    out: &mut [u32],
 ) -> io::Result<()> {
-    print!(rt; "{what} {n}")?;
-    match part {
-        Ok(part) => words(rt, part),
-        Err(refusal) => println!(rt; " no {}", refusal.number()),
+    match readers::front_uses(m, definition, out) {
+        Ok(part) => words(rt, name, part),
+        Err(refusal) => println!(rt; "{name} no {}", u32::from(refusal)),
     }
-}
-
-// The uses of the value with this number.
-fn print_value(rt: &impl Print, m: &[u32], n: u32) -> io::Result<()> {
-    let mut out = [0u32; 2];
-    let part = readers::front_uses(m, Definition::Value(n), &mut out);
-    tell_uses(rt, "uses of value", n, part)
-}
-
-// The same with no room for any.
-fn print_short(rt: &impl Print, m: &[u32], n: u32) -> io::Result<()> {
-    let part = readers::front_uses(m, Definition::Value(n), &mut []);
-    tell_uses(rt, "no room for uses of value", n, part)
-}
-
-// The uses of the block with this number.
-fn print_block(rt: &impl Print, m: &[u32], n: u32) -> io::Result<()> {
-    let mut out = [0u32; 2];
-    let part = readers::front_uses(m, Definition::Block(n), &mut out);
-    tell_uses(rt, "uses of block", n, part)
 }
 
 // Those of both values and of the block, and each refusal.
 fn print_uses(rt: &impl Print, m: &[u32]) -> io::Result<()> {
-    print_value(rt, m, 0)?;
-    print_value(rt, m, 1)?;
-    print_value(rt, m, 2)?;
-    print_short(rt, m, 0)?;
-    print_block(rt, m, 0)?;
-    print_block(rt, m, 1)
+    let mut out = [0u32; 2];
+    print_uses_of(rt, m, "uses of value 0", Definition::Value(0), &mut out)?;
+    print_uses_of(rt, m, "uses of value 1", Definition::Value(1), &mut out)?;
+    print_uses_of(rt, m, "uses of value 2", Definition::Value(2), &mut out)?;
+    print_uses_of(
+        rt,
+        m,
+        "no room for uses of value 0",
+        Definition::Value(0),
+        &mut [],
+    )?;
+    print_uses_of(rt, m, "uses of block 0", Definition::Block(0), &mut out)?;
+    print_uses_of(rt, m, "uses of block 1", Definition::Block(1), &mut out)
 }
 
 // A block with one argument.

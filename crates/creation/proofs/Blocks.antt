@@ -5,26 +5,26 @@ use Prim.Native.Nat.{ℕ, ◌+◌, ◌≤◌, ◌<◌}
 use native.Mathlib.Omega.{arith}
 use lib.ListN.{length, get_or}
 use Rattle.edit.specs.Record.{Edit, new_block, part}
-use Rattle.edit.specs.Taken.{edit_of, Passed}
+use Rattle.edit.specs.Kinds.{number_of, kind_number}
+use Rattle.edit.specs.Taken.{edit_by, Passed}
+use Rattle.edit.specs.declared.Kind.TheVariants.{NewBlock}
 use Rattle.edit.specs.Answer.{found}
 use Rattle.std.specs.Prelude.{Ok, Err}
 use Rattle.edit.specs.declared.Refusal.{Refusal}
-use Rattle.edit.specs.Kinds.{number_of}
 use Rattle.edit.proofs.Asked.{block_fields, part_length}
-use Rattle.edit.proofs.ByKind.{kinds}
+use Rattle.edit.proofs.ByKind.{by_new_block}
 use Rattle.rules.specs.History.{births}
 use Rattle.rules.specs.State.{accept}
 use Rattle.rules.specs.Refusal.{check, named, lacks, numbers, live_counts, places, no_room, first_missing, from_state, refusal_of}
 use Rattle.rules.specs.Step.{answer}
 use Rattle.places.specs.Store.{Kind, op, blk, val, arguments, vals, Con, State, Live, birth, enter}
 use Rattle.places.specs.View.{num, view, n_birth, n_enter, named_c}
-use Rattle.places.specs.Parts.{store, rows_of}
+use Rattle.places.specs.Parts.{store}
 use Rattle.places.specs.Hist.{rule_state, meaning}
 use Rattle.places.specs.Accepts.{Accepts}
 use Rattle.places.specs.Settled.{Settles}
 use Rattle.places.proofs.Steps.{Fresh, alive_born}
 use Rattle.places.proofs.Sees.{see_birth, num_new}
-use Rattle.places.proofs.Rows.{mine}
 use Rattle.places.proofs.RuleRefusals.{refusal_tests, born_is}
 use Rattle.places.proofs.RuleAccept.{accept_is}
 use Rattle.places.proofs.RuleUses.{cap_birth}
@@ -34,21 +34,20 @@ use Rattle.places.proofs.Settling.{settles_same, settles_birth, settles_enter, l
 use Rattle.places.proofs.RuleGrown.{kept_birth, arguments_live, arguments_next, arguments_long, block_ended}
 use Rattle.context.specs.declared.Layout.{Layout}
 use Rattle.context.specs.Layout.{cap_of}
-use Rattle.context.specs.Memory.{con, state_of, parts_of, SoundStore, RoomFor}
+use Rattle.context.specs.Memory.{con, ListIs, state_of, parts_of, SoundStore, RoomFor}
 use Rattle.context.specs.Reading.{NextNumberIs}
 use Rattle.context.specs.Steps.{BorneBlock, CanBearValue, BorneValue}
 use Rattle.context.specs.Performed.{abs, Performed}
 use Rattle.context.proofs.Performing.{refuses, accepts}
 use Rattle.creation.specs.Room.{five, RoomIs}
+use Rattle.creation.specs.declared.Five as counts
 use Rattle.creation.specs.Made.{gone, Made, BlockReady, BlockPartly}
+use Rattle.creation.proofs.Rooms.{Zeros}
 use Rattle.creation.proofs.Listed.{part_none, part_more}
 
 cap_is : (l : Layout) (m : List ℕ) (k : Kind) → ((state_of l m).tab k).cap ≡ cap_of l k
 unfolding store parts_of
 cap_is l m k = refl
-
-pub is_block : (fs : List ℕ) → edit_of 2 fs ≡ new_block (part fs 1 (get_or fs 0 0))
-is_block fs = (kinds fs).block_new
 
 not_op : (k : Kind) → k ≡ blk → k ≡ op → ⊥
 not_op k e f = let q : blk ≡ op = sym e ∙ f in let z : ◌≡◌ {A = ℕ} 0 1 = cc in omega arith
@@ -58,7 +57,10 @@ not_op_val k e f = let q : val ≡ op = sym e ∙ f in let z : ◌≡◌ {A = �
 
 -- ---- refused or not
 
-module _ {l : Layout} {m : List ℕ} (S : SoundStore l m) (fs : List ℕ) (F : Passed 2 fs) (n c : ℕ) (n_is : n ≡ get_or fs 0 0) (R : RoomIs l (five 0 1 0 n 0) m c) where
+module _ {l : Layout} {m : List ℕ} (S : SoundStore l m) (fs : List ℕ) (F : Passed (kind_number NewBlock) fs) (n c : ℕ) (n_is : n ≡ get_or fs 0 0) (w : counts.Five) (zeros : Zeros w) (room : RoomIs l (five w.operations 1 w.regions n w.uses) m c) where
+  R : RoomIs l (five 0 1 0 n 0) m c
+  R = rw (zeros.0, zeros.1.1.0, zeros.1.1.1.1) at room
+
   abbrev P : State
   P = state_of l m
 
@@ -75,8 +77,8 @@ module _ {l : Layout} {m : List ℕ} (S : SoundStore l m) (fs : List ℕ) (F : P
       ∙ ap (λ (v : ℕ). check (lacks (meaning P).capacities (live_counts (meaning P)) (five 0 1 0 v 0)) 20 (check (lacks numbers (meaning P).history.born (five 0 1 0 v 0)) 21 0)) long
       ∙ sym R.is
 
-  pub block_refused : (r : Refusal) → c ≡ number_of r → Performed l (edit_of 2 fs) m m (Err r)
-  block_refused r z = rw (is_block fs) (refuses E S r (block_refusal ∙ z))
+  pub block_refused : (r : Refusal) → c ≡ number_of r → Performed l (edit_by NewBlock fs) m m (Err r)
+  block_refused r z = rw (by_new_block fs) (refuses E S r (block_refusal ∙ z))
 
   module _ (z : c ≡ 0) where
     pub block_ready : BlockReady l fs m
@@ -117,11 +119,7 @@ module _ {l : Layout} {m m₁ : List ℕ} (fs : List ℕ) (b j : ℕ) (A : Block
   abbrev M : Made l (new_block (part fs 1 j)) blk b m m₁
   M = A.made
 
-  row_is : con l vals (l.ops + b) ≡ (arguments, (blk, b))
-  unfolding rows_of
-  row_is = mine l.values l.ops arguments b tt
-
-  module _ (j< : j < get_or fs 0 0) where
+  module _ (j< : j < get_or fs 0 0) {k : ℕ} (V : ListIs l vals (arguments, (blk, b)) k) where
     so_long : length (part fs 1 j) ≡ j
     so_long = part_length fs 1 j (omega (arith, A.ready.fields.full, j<))
 
@@ -134,15 +132,15 @@ module _ {l : Layout} {m m₁ : List ℕ} (fs : List ℕ) (b j : ℕ) (A : Block
       number = omega (arith, arguments_next A.ready.sound.sound.linked M.sound.sound (gone l m) (part fs 1 j) M.accepts, so_long, j<, A.ready.numbers val);
     }
 
-    pub can_argument : CanBearValue Q l.values (con l vals (l.ops + b))
-    can_argument = rw row_is (record { room = room; home = M.live; limit = limit })
+    pub can_argument : CanBearValue Q l.values (con l vals k)
+    can_argument = rw V.row (record { room = room; home = M.live; limit = limit })
 
-    module _ {m₂ : List ℕ} (q t : ℕ) (t-is : t ≡ get_or fs (1 + j) 0) (B : BorneValue l (l.ops + b) j t m₁ m₂ q) where
+    module _ {m₂ : List ℕ} (q t : ℕ) (t-is : t ≡ get_or fs (1 + j) 0) (B : BorneValue l k j t m₁ m₂ q) where
       abbrev Z : State
       Z = state_of l m₂
 
       born : Z ≡ enter (arguments, (blk, b)) j (val, q) (birth (val, q) t Q)
-      born = B.state ∙ ap (λ (c : Con). enter c j (val, q) (birth (val, q) t Q)) row_is
+      born = B.state ∙ ap (λ (c : Con). enter c j (val, q) (birth (val, q) t Q)) V.row
 
       fresh_value : Fresh Q (val, q) t
       fresh_value = record { dead = B.dead; room = rw (cap_is l m₁ val) B.room; flags = λ e. absurd (not_op_val val refl e) }
@@ -151,7 +149,7 @@ module _ {l : Layout} {m m₁ : List ℕ} (fs : List ℕ) (b j : ℕ) (A : Block
       caps k = ap (λ (X : State). (X.tab k).cap) born ∙ value_caps Q (arguments, (blk, b)) j t q k
 
       seen : view Z ≡ n_enter (arguments, (blk, ((state_of l m).tab blk).next)) j (val, (view Q).next val) (n_birth val t (view Q))
-      seen = B.view ∙ ap (λ (c : Con). n_enter (named_c Q c) j (val, (view Q).next val) (n_birth val t (view Q))) row_is ∙ ap (λ (n : ℕ). n_enter (arguments, (blk, n)) j (val, (view Q).next val) (n_birth val t (view Q))) M.number
+      seen = B.view ∙ ap (λ (c : Con). n_enter (named_c Q c) j (val, (view Q).next val) (n_birth val t (view Q))) V.row ∙ ap (λ (n : ℕ). n_enter (arguments, (blk, n)) j (val, (view Q).next val) (n_birth val t (view Q))) M.number
 
       turned : Accepts (state_of l m) Z (new_block (part fs 1 j ++ t ∷ [])) (gone l m) (gone l m)
       turned = argument_turn Q Z A.ready.sound.sound.linked (gone l m) caps (part fs 1 j) M.accepts t j (omega (arith, so_long)) seen
@@ -190,6 +188,6 @@ module _ {l : Layout} {m m' : List ℕ} (fs : List ℕ) (b : ℕ) (A : BlockPart
   unfolding meaning
   state_is = ap (λ (k : ℕ). rule_state k (state_of l m')) (block_ended A.ready.sound.sound.linked A.made.sound.sound (gone l m) (part fs 1 (get_or fs 0 0)) A.made.accepts) ∙ accept_is A.made.sound.sound K (gone l m) (gone l m) A.made.accepts
 
-  pub block_done : Performed l (edit_of 2 fs) m m' (Ok (x, 0))
+  pub block_done : Performed l (edit_by NewBlock fs) m m' (Ok (x, 0))
   unfolding answer
-  block_done = rw (is_block fs) (accepts K A.made.sound whole state_is A.made.rest A.made.places x 0 (ap (λ (n : ℕ). found n 0) (born_is A.ready.sound.sound blk ∙ sym X.is)))
+  block_done = rw (by_new_block fs) (accepts K A.made.sound whole state_is A.made.rest A.made.places x 0 (ap (λ (n : ℕ). found n 0) (born_is A.ready.sound.sound blk ∙ sym X.is)))

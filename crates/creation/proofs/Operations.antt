@@ -2,34 +2,34 @@
 use mathlib.Core.Path.{◌≡◌, refl, sym, ap, ap₂, ◌∙◌, subst}
 use mathlib.Core.Logic.{◌≢◌}
 use mathlib.Core.List.{List, [], ◌++◌, map, append-nil}
-use Prim.Native.Nat.{ℕ, suc, ◌+◌, ◌-◌, ◌*◌, ◌≤◌, ◌<◌}
+use Prim.Native.Nat.{ℕ, suc, ◌+◌, ◌-◌, ◌≤◌, ◌<◌}
 use native.Mathlib.Omega.{arith}
 use native.Mathlib.Numerals.{add-one}
 use lib.ListN.{length, get_or}
 use Rattle.std.specs.Prelude as Rust
 use Rattle.std.specs.Prelude.{Some, Ok, Err}
 use Rattle.edit.specs.declared.Refusal.{Refusal}
-use Rattle.edit.specs.Kinds.{number_of}
+use Rattle.edit.specs.Kinds.{number_of, kind_number}
 use Rattle.edit.specs.Record.{Slot, operand, successor, Edit, new_operation, part}
-use Rattle.edit.specs.Taken.{edit_of, OperationFields, Passed}
+use Rattle.edit.specs.Taken.{edit_by, OperationFields, Passed}
+use Rattle.edit.specs.declared.Kind.TheVariants.{NewOperation}
 use Rattle.edit.specs.Answer.{found}
 use Rattle.edit.proofs.Asked.{operation_fields, part_length}
-use Rattle.edit.proofs.ByKind.{kinds}
+use Rattle.edit.proofs.ByKind.{by_new_operation}
 use Rattle.rules.specs.History.{births}
 use Rattle.rules.specs.State.{accept}
 use Rattle.rules.specs.Refusal.{check, named, definition_named, block_named, lacks, numbers, live_counts, places, no_room, first_missing, from_state, refusal_of}
 use Rattle.rules.specs.Step.{answer}
-use Rattle.places.specs.Store.{Kind, op, blk, reg, val, usg, results, operands, successors, value_uses, block_uses, regions, vals, slots, use_sets, Con, State, Live, Linked, birth, enter, relink, set_own, set_list}
+use Rattle.places.specs.Store.{Kind, op, reg, val, usg, results, operands, successors, regions, vals, slots, use_sets, Con, State, Live, Linked, birth, enter, relink, set_own, set_list}
 use Rattle.places.specs.View.{num, view, n_birth, n_enter, named_c}
 use Rattle.places.specs.Edits.{birth_use, n_birth_use}
-use Rattle.places.specs.Parts.{store, rows_of}
+use Rattle.places.specs.Parts.{store}
 use Rattle.places.specs.Hist.{rule_state, meaning}
 use Rattle.places.specs.Roles.{slot_role, def_role, def_kind}
 use Rattle.places.specs.Accepts.{Accepts}
 use Rattle.places.specs.Settled.{Settles}
 use Rattle.places.proofs.Steps.{Fresh, alive_born, alive_enter}
 use Rattle.places.proofs.Sees.{see_birth, num_new}
-use Rattle.places.proofs.Rows.{mine}
 use Rattle.places.proofs.RuleRefusals.{refusal_name, refusal_tests, born_is}
 use Rattle.places.proofs.RuleAccept.{accept_is, ended_of}
 use Rattle.places.proofs.RuleUses.{slot_fits, cap_birth}
@@ -38,8 +38,8 @@ use Rattle.places.proofs.RuleBirths.{operation_first, result_turn, operand_turn,
 use Rattle.places.proofs.Settling.{settles_same, settles_birth, settles_enter, settles_birth_use, lowest_free}
 use Rattle.places.proofs.RuleGrown.{kept_birth, kept_enter, values_live, values_next, uses_live, uses_next, regions_live, regions_next, same_ended, results_long, operands_long, successors_long, regions_long, value_kept, block_kept}
 use Rattle.context.specs.declared.Layout.{Layout}
-use Rattle.context.specs.Layout.{cap_of, nc_of}
-use Rattle.context.specs.Memory.{con, state_of, parts_of, SoundStore, RoomFor, Finds}
+use Rattle.context.specs.Layout.{cap_of}
+use Rattle.context.specs.Memory.{con, ListIs, state_of, parts_of, SoundStore, RoomFor, Finds}
 use Rattle.context.specs.Reading.{NextNumberIs}
 use Rattle.context.specs.Steps.{BorneOp, CanBearValue, BorneValue, CanBear, BorneUse, CanHold, BorneRegion}
 use Rattle.context.specs.Performed.{abs, Performed}
@@ -68,33 +68,9 @@ use_caps_of : (P : State) (c d : Con) (i j u : ℕ) (k : Kind) → ((birth_use c
 unfolding enter relink set_own set_list
 use_caps_of P c d i j u k = cap_birth P (usg, u) 0 k
 
--- the rows of the lists that a use stands in
-pub slots_0 : (l : Layout) (sl : Slot) (o : ℕ) → sl ≡ operand → con l slots (2 * o) ≡ (slot_role sl, (op, o))
-unfolding rows_of
-slots_0 l sl o e = mine l.values l.ops operands o tt ∙ ap (λ (x : Slot). (slot_role x, (op, o))) (sym e)
-
-pub slots_1 : (l : Layout) (sl : Slot) (o : ℕ) → sl ≡ successor → con l slots (2 * o + 1) ≡ (slot_role sl, (op, o))
-unfolding rows_of
-slots_1 l sl o e = mine l.values l.ops successors o tt ∙ ap (λ (x : Slot). (slot_role x, (op, o))) (sym e)
-
-pub sets_0 : (l : Layout) (sl : Slot) (p : ℕ) → sl ≡ operand → p < l.values → con l use_sets p ≡ (def_role sl, (def_kind sl, p))
-unfolding rows_of
-sets_0 l sl p e h = mine l.values l.ops value_uses p h ∙ ap (λ (x : Slot). (def_role x, (def_kind x, p))) (sym e)
-
-pub sets_1 : (l : Layout) (sl : Slot) (p : ℕ) → sl ≡ successor → con l use_sets (l.values + p) ≡ (def_role sl, (def_kind sl, p))
-unfolding rows_of
-sets_1 l sl p e = mine l.values l.ops block_uses p tt ∙ ap (λ (x : Slot). (def_role x, (def_kind x, p))) (sym e)
-
 -- the definition that was found
-module _ {l : Layout} {m : List ℕ} (S : SoundStore l m) (sl : Slot) (k : Kind) (k-is : k ≡ def_kind sl) (d p : ℕ) (r : Rust.Option ℕ) (F : Finds (state_of l m) k d r) (e : r ≡ Some p) where
-  pub definition_is : Live (state_of l m) (def_kind sl, p) × (num (state_of l m) (def_kind sl, p) ≡ d)
-  definition_is = let G : Live (state_of l m) (k, p) × (num (state_of l m) (k, p) ≡ d) = rw e at F in subst (λ (x : Kind). Live (state_of l m) (x, p) × (num (state_of l m) (x, p) ≡ d)) k-is G
-
-  pub value< : sl ≡ operand → p < l.values
-  value< z = place< S (val, p) (rw z at definition_is.0)
-
-  pub block< : sl ≡ successor → p < l.blocks
-  block< z = place< S (blk, p) (rw z at definition_is.0)
+pub definition_is : (P : State) (sl : Slot) (k : Kind) → k ≡ def_kind sl → (d p : ℕ) (r : Rust.Option ℕ) → Finds P k d r → r ≡ Some p → Live P (def_kind sl, p) × (num P (def_kind sl, p) ≡ d)
+definition_is P sl k k-is d p r F e = let G : Live P (k, p) × (num P (k, p) ≡ d) = rw e at F in subst (λ (x : Kind). Live P (x, p) × (num P (x, p) ≡ d)) k-is G
 
 -- the tables right, and no use ended: the state is the rules'
 whole_state : {l : Layout} {m m' : List ℕ} → SoundStore l m → SoundStore l m' → (E : Edit) → ended_of (state_of l m') ≡ gone l m → Accepts (state_of l m) (state_of l m') E (gone l m) (gone l m) → meaning (state_of l m') ≡ accept E (meaning (state_of l m))
@@ -107,9 +83,9 @@ module _ {l : Layout} {m : List ℕ} (S : SoundStore l m) (sl : Slot) (o i d : �
   abbrev P : State
   P = state_of l m
 
-  module _ (p : ℕ) (p_is : Live P (def_kind sl, p) × (num P (def_kind sl, p) ≡ d)) (s k : ℕ) (s-is : con l slots s ≡ (slot_role sl, (op, o))) (k-is : con l use_sets k ≡ (def_role sl, (def_kind sl, p))) where
+  module _ (p : ℕ) (p_is : Live P (def_kind sl, p) × (num P (def_kind sl, p) ≡ d)) {s k : ℕ} (A : ListIs l slots (slot_role sl, (op, o)) s) (D : ListIs l use_sets (def_role sl, (def_kind sl, p)) k) where
     pub can_use : CanBear P l.uses (con l slots s) (con l use_sets k)
-    can_use = rw (s-is, k-is) (record { room = C.room; fit = slot_fits sl; slot = C.slot; limit = C.limit; home = p_is.0 })
+    can_use = rw (A.row, D.row) (record { room = C.room; fit = slot_fits sl; slot = C.slot; limit = C.limit; home = p_is.0 })
 
     pub used : {m' : List ℕ} (u : ℕ) → BorneUse l s i k m m' u → Used l sl o i d m m'
     used {m'} u B =
@@ -117,13 +93,13 @@ module _ {l : Layout} {m : List ℕ} (S : SoundStore l m) (sl : Slot) (o i d : �
           sound = B.sound;
           rest = B.rest;
           caps = λ j. ap (λ (Q : State). (Q.tab j).cap) born ∙ use_caps j;
-          view = B.view ∙ ap₂ (λ (x y : Con). n_birth_use (named_c P x) i (named_c P y) (view P)) s-is k-is ∙ ap (λ (n : ℕ). n_birth_use (slot_role sl, (op, num P (op, o))) i (def_role sl, (def_kind sl, n)) (view P)) p_is.1;
+          view = B.view ∙ ap₂ (λ (x y : Con). n_birth_use (named_c P x) i (named_c P y) (view P)) A.row D.row ∙ ap (λ (n : ℕ). n_birth_use (slot_role sl, (op, num P (op, o))) i (def_role sl, (def_kind sl, n)) (view P)) p_is.1;
           places = λ from s₀. subst (Settles from) (sym born) (settles_birth_use (slot_role sl, (op, o)) i (def_role sl, (def_kind sl, p)) l.uses u s₀ (lowest_free P usg u B.dead B.lowest));
           kept = rw born kept_use;
         }
       where
         born : state_of l m' ≡ birth_use (slot_role sl, (op, o)) i (def_role sl, (def_kind sl, p)) l.uses u P
-        born = B.state ∙ ap₂ (λ (x y : Con). birth_use x i y l.uses u P) s-is k-is
+        born = B.state ∙ ap₂ (λ (x y : Con). birth_use x i y l.uses u P) A.row D.row
 
         fresh : Fresh P (usg, u) 0
         fresh = record { dead = B.dead; room = rw (cap_is l m usg) B.room; flags = λ e. absurd (not_op_usg e) }
@@ -171,16 +147,9 @@ module _ {l : Layout} {m : List ℕ} (fs : List ℕ) (c : Parts) (o : ℕ) (R : 
     abbrev L : Linked P₀
     L = R.sound.sound.linked
 
-    row_is : con l vals o ≡ (results, (op, o))
-    unfolding rows_of
-    row_is = mine l.values l.ops results o (place< M.sound (op, o) M.live)
-
-    pub results_row : o < nc_of l vals
-    results_row = omega (arith, place< M.sound (op, o) M.live)
-
-    pub can_result : i < c.results → CanBearValue Q l.values (con l vals o)
-    can_result h =
-        rw row_is
+    pub can_result : {v : ℕ} → ListIs l vals (results, (op, o)) v → i < c.results → CanBearValue Q l.values (con l vals v)
+    can_result V h =
+        rw V.row
         (record {
           room = record {
             place = omega (arith, values_live L M.sound.sound (gone l m) (get_or fs 0 0) ts vs bs n M.accepts, long_ts, h, R.places val);
@@ -227,8 +196,8 @@ module _ {l : Layout} {m : List ℕ} (fs : List ℕ) (c : Parts) (o : ℕ) (R : 
         }
 
     module _ {m₂ : List ℕ} where
-      pub result_made : i < c.results → (t q : ℕ) → t ≡ get_or fs (5 + i) 0 → BorneValue l o i t m₁ m₂ q → Made l (grown fs c (i + 1) j k n) op o m m₂
-      result_made h t q t-is B =
+      pub result_made : {v : ℕ} → ListIs l vals (results, (op, o)) v → i < c.results → (t q : ℕ) → t ≡ get_or fs (5 + i) 0 → BorneValue l v i t m₁ m₂ q → Made l (grown fs c (i + 1) j k n) op o m m₂
+      result_made V h t q t-is B =
           record {
             sound = B.sound;
             rest = B.rest ∙ M.rest;
@@ -239,13 +208,13 @@ module _ {l : Layout} {m : List ℕ} (fs : List ℕ) (c : Parts) (o : ℕ) (R : 
           }
         where
           born : (state_of l m₂) ≡ enter (results, (op, o)) i (val, q) (birth (val, q) t Q)
-          born = B.state ∙ ap (λ (y : Con). enter y i (val, q) (birth (val, q) t Q)) row_is
+          born = B.state ∙ ap (λ (y : Con). enter y i (val, q) (birth (val, q) t Q)) V.row
 
           caps : (x : Kind) → ((state_of l m₂).tab x).cap ≡ (Q.tab x).cap
           caps x = ap (λ (X : State). (X.tab x).cap) born ∙ value_caps Q (results, (op, o)) i t q x
 
           seen : view (state_of l m₂) ≡ n_enter (results, (op, (P₀.tab op).next)) i (val, (view Q).next val) (n_birth val t (view Q))
-          seen = B.view ∙ ap (λ (y : Con). n_enter (named_c Q y) i (val, (view Q).next val) (n_birth val t (view Q))) row_is ∙ ap (λ (y : ℕ). n_enter (results, (op, y)) i (val, (view Q).next val) (n_birth val t (view Q))) M.number
+          seen = B.view ∙ ap (λ (y : Con). n_enter (named_c Q y) i (val, (view Q).next val) (n_birth val t (view Q))) V.row ∙ ap (λ (y : ℕ). n_enter (results, (op, y)) i (val, (view Q).next val) (n_birth val t (view Q))) M.number
 
           kept : Live (state_of l m₂) (op, o) × (num (state_of l m₂) (op, o) ≡ num Q (op, o))
           kept = rw born (kept_birth M.sound.sound.linked (val, q) t (record { dead = B.dead; room = rw (cap_is l m₁ val) B.room; flags = λ e. absurd (not_op refl e) }) (results, (op, o)) i (op, o) M.live)
@@ -301,12 +270,12 @@ module _ {l : Layout} {m : List ℕ} (fs : List ℕ) (c : Parts) (o : ℕ) (R : 
 -- ---- one birth more, of each list
 
 module _ {l : Layout} {m m₁ : List ℕ} (fs : List ℕ) (c : Parts) (o : ℕ) where
-  module _ (j : ℕ) (A : OperationPartly l fs c o (grown fs c j 0 0 0) m m₁) (h : j < c.results) where
-    pub result_can : (o < nc_of l vals) × CanBearValue (state_of l m₁) l.values (con l vals o)
-    result_can = (results_row fs c o A.ready j 0 0 0 (omega (arith, h)) (omega arith) (omega arith) A.made, can_result fs c o A.ready j 0 0 0 (omega (arith, h)) (omega arith) (omega arith) A.made h)
+  module _ (j : ℕ) (A : OperationPartly l fs c o (grown fs c j 0 0 0) m m₁) {v : ℕ} (V : ListIs l vals (results, (op, o)) v) (h : j < c.results) where
+    pub result_can : CanBearValue (state_of l m₁) l.values (con l vals v)
+    result_can = can_result fs c o A.ready j 0 0 0 (omega (arith, h)) (omega arith) (omega arith) A.made V h
 
-    pub result_on : {m₂ : List ℕ} (x q : ℕ) → x ≡ get_or fs (5 + j) 0 → BorneValue l o j x m₁ m₂ q → OperationPartly l fs c o (grown fs c (j + 1) 0 0 0) m m₂
-    result_on x q e B = record { ready = A.ready; made = result_made fs c o A.ready j 0 0 0 (omega (arith, h)) (omega arith) (omega arith) A.made h x q e B }
+    pub result_on : {m₂ : List ℕ} (x q : ℕ) → x ≡ get_or fs (5 + j) 0 → BorneValue l v j x m₁ m₂ q → OperationPartly l fs c o (grown fs c (j + 1) 0 0 0) m m₂
+    result_on x q e B = record { ready = A.ready; made = result_made fs c o A.ready j 0 0 0 (omega (arith, h)) (omega arith) (omega arith) A.made V h x q e B }
 
   pub use_can : (sl : Slot) (j : ℕ) → OperationPartly l fs c o (with_uses fs c sl j) m m₁ → j < uses_many c sl → (d : ℕ) → d ≡ get_or fs (uses_from c sl + j) 0 → CanUse l sl o d m₁
   use_can operand j A h d e = can_operand fs c o A.ready c.results j 0 0 (omega arith) (omega (arith, h)) (omega arith) A.made h d e
@@ -325,12 +294,12 @@ module _ {l : Layout} {m m₁ : List ℕ} (fs : List ℕ) (c : Parts) (o : ℕ) 
 
 -- ---- the tests
 
-module _ {l : Layout} {m : List ℕ} (S : SoundStore l m) (fs : List ℕ) (F : Passed 1 fs) (c : Parts) (N : Counts fs c) where
+module _ {l : Layout} {m : List ℕ} (S : SoundStore l m) (fs : List ℕ) (F : Passed (kind_number NewOperation) fs) (c : Parts) (N : Counts fs c) where
   abbrev whole : Edit
   whole = grown fs c c.results c.operands c.successors c.regions
 
-  pub is_operation : edit_of 1 fs ≡ whole
-  is_operation = (kinds fs).operation_new ∙ sym (λ t. new_operation (get_or fs 0 0) (part fs 5 (N.results t)) (part fs (5 + N.results t) (N.operands t)) (part fs (5 + N.results t + N.operands t) (N.successors t)) (N.regions t))
+  pub is_operation : edit_by NewOperation fs ≡ whole
+  is_operation = by_new_operation fs ∙ sym (λ t. new_operation (get_or fs 0 0) (part fs 5 (N.results t)) (part fs (5 + N.results t) (N.operands t)) (part fs (5 + N.results t + N.operands t) (N.successors t)) (N.regions t))
 
   abbrev fields : OperationFields fs
   fields = operation_fields fs F
@@ -400,7 +369,7 @@ module _ {l : Layout} {m : List ℕ} (fs : List ℕ) (c : Parts) (R : OperationR
   abbrev all : Edit
   all = grown fs c c.results c.operands c.successors c.regions
 
-  pub operation_done : {m' : List ℕ} (o x : ℕ) → OperationPartly l fs c o (grown fs c c.results c.operands c.successors c.regions) m m' → refusal_of (abs l m) (edit_of 1 fs) ≡ 0 → Passed 1 fs → NextNumberIs l op m x → Performed l (edit_of 1 fs) m m' (Ok (x, 0))
+  pub operation_done : {m' : List ℕ} (o x : ℕ) → OperationPartly l fs c o (grown fs c c.results c.operands c.successors c.regions) m m' → refusal_of (abs l m) (edit_by NewOperation fs) ≡ 0 → Passed (kind_number NewOperation) fs → NextNumberIs l op m x → Performed l (edit_by NewOperation fs) m m' (Ok (x, 0))
   unfolding answer abs
   operation_done {m'} o x A free F X =
       rw (is_operation R.sound fs F c R.counts)
@@ -409,6 +378,6 @@ module _ {l : Layout} {m : List ℕ} (fs : List ℕ) (c : Parts) (R : OperationR
       state_is : meaning (state_of l m') ≡ accept all (meaning (state_of l m))
       state_is = whole_state R.sound A.made.sound all (same_ended R.sound.sound.linked A.made.sound.sound (gone l m) (get_or fs 0 0) (part fs 5 c.results) (part fs (5 + c.results) c.operands) (part fs (5 + c.results + c.operands) c.successors) c.regions A.made.accepts) A.made.accepts
 
-pub operation_refused : {l : Layout} {m : List ℕ} → SoundStore l m → (fs : List ℕ) (c : Parts) (r : Refusal) → OperationTested l fs c m (number_of r) → Performed l (edit_of 1 fs) m m (Err r)
+pub operation_refused : {l : Layout} {m : List ℕ} → SoundStore l m → (fs : List ℕ) (c : Parts) (r : Refusal) → OperationTested l fs c m (number_of r) → Performed l (edit_by NewOperation fs) m m (Err r)
 unfolding abs
-operation_refused S fs c r T = refuses (edit_of 1 fs) S r T.is
+operation_refused S fs c r T = refuses (edit_by NewOperation fs) S r T.is

@@ -15,11 +15,16 @@ use Rattle.context.specs.declared.Layout.{Layout}
 use Rattle.context.specs.Layout.{cap_of}
 use Rattle.context.specs.Memory.{state_of, parts_of, SoundStore}
 use Rattle.context.specs.Performed.{abs}
+use Rattle.creation.specs.declared.Five as counts
 use Rattle.creation.specs.Room.{wants, over, spare, left, RoomIs}
 
 neither : (a b : Bool) → (a || b) ≡ false → (a ≡ false) × (b ≡ false)
 neither false b e = (refl, e)
 neither true b e = let z : ◌≡◌ {A = ℕ} 0 1 = cc in absurd (omega arith)
+
+-- five zeros
+abbrev pub Zeros : counts.Five → Type 0
+Zeros z = (z.operations ≡ 0) × ((z.blocks ≡ 0) × ((z.regions ≡ 0) × ((z.values ≡ 0) × (z.uses ≡ 0))))
 
 -- ---- the five of a store
 

@@ -2,7 +2,8 @@
 -- Assumes nothing: these are definitions.
 use Rattle.std.specs.Prelude.{◌≡◌, ◌≢◌, List, ◌++◌, map, ℕ, ◌+◌, ◌-◌, ◌<◌, ◌≤◌, length, get_or}
 use Rattle.edit.specs.Record.{Slot, operand, successor, Edit, new_operation, new_block, part}
-use Rattle.edit.specs.Taken.{edit_of, OperationFields, BlockFields}
+use Rattle.edit.specs.Taken.{edit_by, OperationFields, BlockFields}
+use Rattle.edit.specs.declared.Kind.TheVariants.{NewOperation}
 use Rattle.rules.specs.Refusal.{Name, definition_named, first_missing, refusal_of}
 use Rattle.places.specs.Store.{Kind, op, blk, val, usg, Live, State}
 use Rattle.places.specs.View.{num, view}
@@ -105,7 +106,7 @@ pub record OperationReady (l : Layout) (fs : List ℕ) (c : Parts) (m : List ℕ
 
 -- n is the refusal of the record's edit, or 0
 pub record OperationTested (l : Layout) (fs : List ℕ) (c : Parts) (m : List ℕ) (n : ℕ) : Type 0 where
-  pub is : refusal_of (abs l m) (edit_of 1 fs) ≡ n
+  pub is : refusal_of (abs l m) (edit_by NewOperation fs) ≡ n
   pub ready : n ≡ 0 → OperationReady l fs c m
 
 -- the edit with the first i results, j operands, k successors and n regions of a record that lists so many

@@ -3,20 +3,20 @@
 #![tactic(auto)]
 
 ghost use Rattle.std.specs.Prelude.{◌≡◌, ◌+◌, ◌≤◌};
-ghost use Rattle.edit.specs.Kinds.{slot_of, code_of};
-ghost use Rattle.edit.specs.Taken.{fields_of, edit_of, Passed};
-ghost use Rattle.places.specs.Roles.{def_kind};
+ghost use Rattle.edit.specs.Kinds.{slot_of, code_of, kind_number};
+ghost use Rattle.edit.specs.Taken.{fields_of, edit_by, Passed};
+ghost use Rattle.edit.specs.declared.Kind.TheVariants.{NewOperation, NewBlock};
 ghost use Rattle.context.specs.Kinds.{kind_of};
-ghost use Rattle.context.specs.Memory.{state_of, Well, SoundStore};
+ghost use Rattle.context.specs.Memory.{Well, SoundStore};
 ghost use Rattle.context.specs.Performed.{Performed};
 ghost use Rattle.creation.specs.Room.{five_of, over, ByKind, spare, left, RoomIs};
 ghost use Rattle.creation.specs.Made.{NamesIs, Counts, UsesAt, OperationTested, CanUse, Used, grown, with_uses, uses_from, uses_many, Underway, Onward};
 
 use context::{Kind, Layout};
-use edit::{Answer, Refusal, Slot};
+use edit::{Answer, Member, Refusal, Slot};
 
 // A number for each kind.
-#[derive(Clone, Copy)]
+#[derive(Clone, Copy, Default)]
 struct Five {
     operations: usize,
     blocks: usize,
@@ -121,48 +121,37 @@ fn test_room(m: &[u32], l: Layout, want: Five) -> Result<(), Refusal>
 // Kind 2: a block with an argument of each type that the record lists.
 pub fn new_block(m: &mut [u32], l: Layout, rec: &[u8]) -> Answer
     requires sound_store { SoundStore l m.old }
-    requires passed { Passed 2 (fields_of rec.now) }
-    ensures { Performed l (edit_of 2 (fields_of rec.now)) m.old m.new result }
+    requires passed { Passed (kind_number NewBlock) (fields_of rec.now) }
+    ensures { Performed l (edit_by NewBlock (fields_of rec.now)) m.old m.new result }
 {
     let n = edit::field(rec, 0) as usize;
     let want = Five {
-        operations: 0,
         blocks: 1,
-        regions: 0,
         values: n,
-        uses: 0,
+        ..Five::default()
     };
     test_room(m, l, want)?;
     let x = context::next_number(m, l, Kind::Block);
     let b = context::basic_block::birth_block(m, l);
+    let k = context::values_of(l, Member::Block, b);
     for j in 0..n {
         let t = edit::field(rec, 1 + j);
-        context::value::birth_value(m, l, l.ops + b, j, t);
+        context::value::birth_value(m, l, k, j, t);
     }
     Ok((x, 0))
-}
-
-// The kind of what the uses of a slot are uses of.
-fn definition(sl: Slot) -> Kind
-    ensures { kind_of result ≡ def_kind (slot_of sl) }
-{
-    match sl {
-        Slot::Operand => Kind::Value,
-        Slot::Successor => Kind::Block,
-    }
 }
 
 // Refused where one of the definitions that a new operation's record lists for a slot is not there.
 fn test_names(m: &[u32], l: Layout, rec: &[u8], n: Parts, sl: Slot) -> Result<(), Refusal>
     requires sound_store { SoundStore l m.now }
-    requires passed { Passed 1 (fields_of rec.now) }
+    requires passed { Passed (kind_number NewOperation) (fields_of rec.now) }
     requires counts { Counts (fields_of rec.now) n }
     ensures { NamesIs l (slot_of sl) (fields_of rec.now) (uses_from n (slot_of sl)) (uses_many n (slot_of sl)) m.now (code_of result) }
 {
     let (at, many) = n.uses_at(sl);
     for j in 0..many {
         let d = edit::field(rec, at + j);
-        context::look_up(m, l, definition(sl), d)?;
+        context::look_up(m, l, context::definition_kind(sl), d)?;
     }
     Ok(())
 }
@@ -170,7 +159,7 @@ fn test_names(m: &[u32], l: Layout, rec: &[u8], n: Parts, sl: Slot) -> Result<()
 // The tests of a new operation whose record lists so many.
 fn test_operation(m: &[u32], l: Layout, rec: &[u8], n: Parts) -> Result<(), Refusal>
     requires sound_store { SoundStore l m.now }
-    requires passed { Passed 1 (fields_of rec.now) }
+    requires passed { Passed (kind_number NewOperation) (fields_of rec.now) }
     requires counts { Counts (fields_of rec.now) n }
     ensures { OperationTested l (fields_of rec.now) n m.now (code_of result) }
 {
@@ -178,10 +167,10 @@ fn test_operation(m: &[u32], l: Layout, rec: &[u8], n: Parts) -> Result<(), Refu
     test_names(m, l, rec, n, Slot::Successor)?;
     let want = Five {
         operations: 1,
-        blocks: 0,
         regions: n.regions,
         values: n.results,
         uses: n.operands + n.successors,
+        ..Five::default()
     };
     test_room(m, l, want)
 }
@@ -191,9 +180,10 @@ fn bear_results(m: &mut [u32], l: Layout, rec: &[u8], n: Parts, o: usize)
     requires { Underway l (fields_of rec.now) n o (grown (fields_of rec.now) n 0 0 0 0) m.old }
     ensures { Onward l (fields_of rec.now) n o (grown (fields_of rec.now) n 0 0 0 0) (grown (fields_of rec.now) n n.results 0 0 0) m.old m.new }
 {
+    let k = context::values_of(l, Member::Operation, o);
     for j in 0..n.results {
         let t = edit::field(rec, 5 + j);
-        context::value::birth_value(m, l, o, j, t);
+        context::value::birth_value(m, l, k, j, t);
     }
 }
 
@@ -203,11 +193,10 @@ fn bear_use(m: &mut [u32], l: Layout, sl: Slot, o: usize, i: usize, d: u32)
     requires can_use { CanUse l (slot_of sl) o d m.old }
     ensures { Used l (slot_of sl) o i d m.old m.new }
 {
-    let p = context::find(m, l, definition(sl), d).unwrap();
-    match sl {
-        Slot::Operand => context::value::birth_use(m, l, 2 * o, i, p),
-        Slot::Successor => context::value::birth_use(m, l, 2 * o + 1, i, l.values + p),
-    };
+    let p = context::find(m, l, context::definition_kind(sl), d).unwrap();
+    let s = context::slots_of(l, sl, o);
+    let k = context::use_set_of(l, sl, p);
+    context::value::birth_use(m, l, s, i, k);
 }
 
 // The uses in a slot of a new operation at `o` are born.
@@ -225,8 +214,8 @@ fn bear_uses(m: &mut [u32], l: Layout, rec: &[u8], n: Parts, sl: Slot, o: usize)
 // Kind 1: an operation with its results, operands, successors and regions.
 pub fn new_operation(m: &mut [u32], l: Layout, rec: &[u8]) -> Answer
     requires sound_store { SoundStore l m.old }
-    requires passed { Passed 1 (fields_of rec.now) }
-    ensures { Performed l (edit_of 1 (fields_of rec.now)) m.old m.new result }
+    requires passed { Passed (kind_number NewOperation) (fields_of rec.now) }
+    ensures { Performed l (edit_by NewOperation (fields_of rec.now)) m.old m.new result }
 {
     let n = Parts::of(rec);
     test_operation(m, l, rec, n)?;

@@ -1,11 +1,13 @@
 -- The numbers of refusals and of kinds. Assumes nothing.
-use Rattle.std.proofs.Common.{rules, ◌≡◌, refl, sym, ap, ◌∙◌, arith, ℕ, ◌+◌, ◌-◌, ◌<◌, ◌≤◌, List, [], ◌∷◌, map, get_or, inl, inr}
+use Rattle.std.proofs.Common.{rules, ◌≡◌, refl, sym, ap, ◌∙◌, arith, ℕ, ◌+◌, ◌-◌, ◌<◌, ◌≤◌, List, [], ◌∷◌, map, get_or, inl, inr, Option, Some, None, Result, Ok, Err, Bor}
 use Rattle.std.specs.List.{range_with_len}
 use Rattle.std.proofs.Math.ListN.{get_or-eq_default}
 use Rattle.std.proofs.lemmas.Bool.Decides.{leb_tells}
 use Rattle.std.proofs.lemmas.List.{get_or-map}
 use Rattle.std.proofs.lemmas.List.FromFn.{get_or-range_with_len}
-use Rattle.edit.specs.Kinds.{number_of, kind_number}
+use Rattle.std.specs.Option.{SomeIff, ok_or, option_copied}
+use Rattle.std.specs.Slice.{IsItemAt}
+use Rattle.edit.specs.Kinds.{number_of, code_of, kind_number, Names}
 use Rattle.edit.specs.declared.Refusal.{Refusal}
 use Rattle.edit.specs.declared.Refusal.TheVariants.{Malformed, UnknownKind, FieldCount, OverLimit, Capacity, Unsound, NoOperation, NoBlock, NoRegion, NoValue, NoUse, NoIndex, Used, UsedInside, Linked, Unlinked, InsideItself, StrayUser, ListFull, NoPlace, NoNumber, NoRoom}
 use Rattle.edit.specs.declared.Kind.{Kind}
@@ -34,7 +36,7 @@ pub number_of-positive : (r : Refusal) → 0 < number_of r
 number_of-positive r = search (rules, arith)
 
 -- the table's entry i is the kind with number 1 + i
-pub kind_at : (i : ℕ) → i < 44 → kind_number (get_or KINDS i NewOperation) ≡ 1 + i
+kind_at : (i : ℕ) → i < 44 → kind_number (get_or KINDS i NewOperation) ≡ 1 + i
 kind_at i h =
     let numbers : map kind_number KINDS ≡ range_with_len 1 44 = refl in
     sym (get_or-map kind_number KINDS i NewOperation 0 h) ∙ ap (λ (l : List ℕ). get_or l i 0) numbers ∙ get_or-range_with_len 1 44 i 0 h
@@ -101,3 +103,26 @@ kind_number-from k = elim (leb_tells 1 (kind_number k)) [ inl h ↦ h.1 | inr h 
   where
     below : kind_number k - 1 ≡ 0 → 1 ≤ kind_number k
     below h = let e : kind_number NewOperation ≡ kind_number k = ap kind_number (ap (λ (n : ℕ). get_or KINDS n NewOperation) (sym h) ∙ tabled k) in omega arith
+
+-- ---- the kind with a number
+
+-- nothing comes before the number of the first kind
+pub names_none : (n : ℕ) (o : Option ℕ) (r : Refusal) → SomeIff o (1 ≤ n) (n - 1) → ok_or o UnknownKind ≡ Err r → Names n (Err r)
+unfolding Names
+names_none n None r h e = (number_of-injective r UnknownKind (sym (ap code_of e)), elim (leb_tells 1 n) [ inl y ↦ absurd (h y.1) | inr y ↦ inl (omega (arith, y.1)) ])
+names_none n (Some x) r h e = absurd (omega (arith, ap code_of e, number_of-positive r))
+
+-- the number before n, if there is one
+before : (n i : ℕ) (o : Option ℕ) → SomeIff o (1 ≤ n) (n - 1) → ok_or o UnknownKind ≡ Ok i → n ≡ 1 + i
+before n i None h e = absurd (omega (arith, ap code_of e))
+before n i (Some x) h e = omega (arith, h.0, h.1, ap index_of e)
+  where
+    index_of : Result ℕ Refusal → ℕ
+    index_of (Ok j) = j
+    index_of (Err r) = 0
+
+-- the table's entry, if there is one
+pub names_entry : (n i : ℕ) (o : Option ℕ) (r : Option (Bor Kind)) → SomeIff o (1 ≤ n) (n - 1) → ok_or o UnknownKind ≡ Ok i → IsItemAt KINDS i r → Names n (ok_or (option_copied r) UnknownKind)
+unfolding Names
+names_entry n i o None h e g = (refl, inr (omega (arith, g.3, before n i o h e)))
+names_entry n i o (Some x) h e g = ap kind_number (g.4 (omega arith) NewOperation) ∙ kind_at i g.3.0 ∙ sym (before n i o h e)

@@ -52,6 +52,11 @@ abbrev pub member_of : member.Member → Member
 member_of members.Operation = operation
 member_of members.Block = block
 
+-- an operation or a block, as what has an inside
+abbrev pub nested_of : member.Member → Nested
+nested_of members.Operation = nested.Operation
+nested_of members.Block = nested.Block
+
 -- the thing with this birth number
 abbrev pub thing_of : Nested → ℕ → Thing
 thing_of nested.Operation = the_operation

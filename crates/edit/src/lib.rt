@@ -4,9 +4,9 @@
 // bytes requires anything of them: what is wrong with a record is an answer.
 #![tactic(auto)]
 
-ghost use Rattle.std.specs.Prelude.{◌≡◌, true, false, ◌+◌, ◌-◌, ◌*◌, ◌≤◌, ◌<◌, length, get_or};
+ghost use Rattle.std.specs.Prelude.{◌≡◌, true, false, ◌+◌, ◌-◌, ◌*◌, ◌^◌, ◌≤◌, ◌<◌, length, get_or};
 ghost use Rattle.edit.specs.Answer.{Put, numbers, numbers_of};
-ghost use Rattle.edit.specs.Kinds.{number_of, kind_number, Names};
+ghost use Rattle.edit.specs.Kinds.{number_of, nested_of, kind_number, Names};
 ghost use Rattle.edit.specs.Record.{least, over, filled};
 ghost use Rattle.edit.specs.Taken.{NextCut, Taken, record_kind, fields_of, number_at};
 
@@ -37,20 +37,12 @@ pub enum Refusal {
     NoRoom,
 }
 
-impl Refusal {
-    // The document's number.
-    pub fn number(self) -> u32
-        ensures { result ≡ number_of self }
-    {
-        self as u32
-    }
-}
-
+// The document's number.
 impl From<Refusal> for u32 {
     ghost from_gives = { λ r n. n ≡ number_of r };
 
     fn from(refusal: Refusal) -> u32 {
-        refusal.number()
+        refusal as u32
     }
 }
 
@@ -77,6 +69,17 @@ pub enum Nested {
     Operation,
     Block,
     Region,
+}
+
+impl From<Member> for Nested {
+    ghost from_gives = { λ w n. n ≡ nested_of w };
+
+    fn from(w: Member) -> Nested {
+        match w {
+            Member::Operation => Nested::Operation,
+            Member::Block => Nested::Block,
+        }
+    }
 }
 
 // The kinds of edits.
@@ -162,20 +165,19 @@ impl TryFrom<u32> for Kind {
     ghost try_from_gives = { Names };
 
     fn try_from(number: u32) -> Result<Kind, Refusal> {
-        if number == 0 || LAST_KIND < number {
-            return Err(Refusal::UnknownKind);
-        }
-        Ok(KINDS[number as usize - 1])
+        let index = number.checked_sub(1).ok_or(Refusal::UnknownKind)?;
+        KINDS
+            .get(index as usize)
+            .copied()
+            .ok_or(Refusal::UnknownKind)
     }
 }
 
 // The longest record, in bytes.
 const LONGEST: usize = 2048;
 
-const LAST_KIND: u32 = 44;
-
 // The most entries of an ordered list.
-const MOST_ENTRIES: u32 = 64;
+pub const MOST_LISTED: usize = 64;
 
 // The most fields of a record that lists numbers: two, and 256 listed.
 const MOST_FIELDS: usize = 258;
@@ -212,10 +214,18 @@ const LEAST: [u8; 44] = [
 ];
 
 // Byte `i`, or 0 past the end.
-fn byte(b: &[u8], i: usize) -> u32
-    ensures { (result ≡ get_or b.now i 0) × (result < 256) }
+fn byte(b: &[u8], i: usize) -> u8
+    ensures { result ≡ get_or b.now i 0 }
 {
-    b.get(i).map_or(0, |x| u32::from(*x))
+    b.get(i).copied().unwrap_or(0)
+}
+
+// The 16-bit number whose lower byte is byte `p`; bytes past the end are 0.
+fn short(b: &[u8], p: usize) -> u16
+    requires { p + 1 < 2 ^ 64 }
+    ensures { result ≡ get_or b.now p 0 + 256 * get_or b.now (p + 1) 0 }
+{
+    u16::from_le_bytes([byte(b, p), byte(b, p + 1)])
 }
 
 // The 32-bit number whose lowest byte is byte `p`.
@@ -238,7 +248,7 @@ pub fn next_record(bytes: &[u8], at: usize) -> Result<Option<usize>, Refusal>
     if left < 4 {
         return Err(Refusal::Malformed);
     }
-    let n = (byte(bytes, at) + 256 * byte(bytes, at + 1)) as usize;
+    let n = usize::from(short(bytes, at));
     if n < 4 || LONGEST < n || n % 4 != 0 || left < n {
         return Err(Refusal::Malformed);
     }
@@ -249,7 +259,7 @@ pub fn next_record(bytes: &[u8], at: usize) -> Result<Option<usize>, Refusal>
 pub fn kind_of(rec: &[u8]) -> u32
     ensures { result ≡ record_kind rec.now }
 {
-    byte(rec, 2) + 256 * byte(rec, 3)
+    u32::from(short(rec, 2))
 }
 
 // How many fields a record has.
@@ -281,7 +291,7 @@ fn least_fields(number: u32) -> usize
 fn counts_over(rec: &[u8]) -> bool
     ensures { result ≡ over (fields_of rec.now) 1 }
 {
-    3 < field(rec, 0) || (1..5).any(|i| MOST_ENTRIES < field(rec, i))
+    3 < field(rec, 0) || (1..5).any(|i| MOST_LISTED < field(rec, i) as usize)
 }
 
 // Whether a record's flags, counts or listed numbers are over their limits.
@@ -290,7 +300,7 @@ fn is_over(rec: &[u8], kind: Kind) -> bool
 {
     match kind {
         Kind::NewOperation => counts_over(rec),
-        Kind::NewBlock => MOST_ENTRIES < field(rec, 0),
+        Kind::NewBlock => MOST_LISTED < field(rec, 0) as usize,
         Kind::ReplaceSome | Kind::RetargetSome => MOST_FIELDS < field_count(rec),
         _ => false,
     }
@@ -337,12 +347,9 @@ pub fn put_answer(out: &mut [u32], k: usize, answer: Answer)
     requires { 3 * k + 3 ≤ length out.old }
     ensures { Put out.old out.new k (numbers_of answer) }
 {
-    let (refusal, a, b) = match answer {
-        Ok((a, b)) => (0, a, b),
-        Err(refusal) => (refusal.number(), 0, 0),
+    let words = match answer {
+        Ok((a, b)) => [0, a, b],
+        Err(refusal) => [u32::from(refusal), 0, 0],
     };
-    let i = 3 * k;
-    out[i] = refusal;
-    out[i + 1] = a;
-    out[i + 2] = b;
+    out[3 * k..3 * k + 3].copy_from_slice(&words);
 }

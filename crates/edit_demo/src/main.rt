@@ -1,7 +1,7 @@
 // Edit records at their limits, one line each: what is found at the start of the bytes, and what the record is read as.
 #![tactic(auto)]
 
-ghost use Rattle.std.specs.Prelude.{◌≤◌, ◌<◌, length};
+ghost use Rattle.std.specs.Prelude.{◌≤◌};
 
 use edit::Refusal;
 use std::io;
@@ -20,26 +20,26 @@ fn show(rt: &impl Print, bytes: &[u8]) -> io::Result<()> {
     match first_kind(bytes) {
         Ok(None) => println!(rt; "nothing"),
         Ok(Some(kind)) => println!(rt; "kind {kind}"),
-        Err(refusal) => println!(rt; "refused {}", refusal.number()),
+        Err(refusal) => println!(rt; "refused {}", u32::from(refusal)),
     }
 }
 
-// The first `left` bytes of a record with this length and kind; its fields are zeros but for the first and the fifth.
+// The first `left` bytes of a record with this length and the kind of this number; its fields are zeros but for the first
+// and the fifth.
 fn case(
     rt: &impl Print,
     name: &str,
     left: usize,
-    length: usize,
-    kind: u8,
+    length: u16,
+    number: u16,
     first: u8,
     fifth: u8,
 ) -> io::Result<()>
-    requires { (left ≤ 2060) × (length < 65536) }
+    requires { left ≤ 2060 }
 {
     let mut b = [0u8; 2060];
-    b[0] = (length % 256) as u8;
-    b[1] = (length / 256) as u8;
-    b[2] = kind;
+    b[..2].copy_from_slice(&length.to_le_bytes());
+    b[2..4].copy_from_slice(&number.to_le_bytes());
     b[4] = first;
     b[20] = fifth;
     print!(rt; "{name}: ")?;

@@ -1,10 +1,9 @@
 -- The edit of a record by its kind: what was carried out on the record's fields is the record's edit. Assumes nothing.
-use Rattle.std.proofs.Common.{◌≡◌, refl, sym, ap, subst, ℕ, List, get_or}
+use Rattle.std.proofs.Common.{◌≡◌, refl, sym, subst, ℕ, List, get_or}
 use Rattle.edit.specs.Record.{Edit}
 use Rattle.edit.specs.Answer.{Answer}
-use Rattle.edit.specs.Kinds.{member_of, kind_number}
-use Rattle.edit.specs.Taken.{edit_of, edit_by}
-use Rattle.edit.specs.declared.Kind.{Kind}
+use Rattle.edit.specs.Kinds.{member_of}
+use Rattle.edit.specs.Taken.{edit_by}
 use Rattle.edit.specs.declared.Kind.TheVariants.{Erase}
 use Rattle.edit.specs.declared.Member.{Member}
 use Rattle.edit.specs.declared.Member.TheVariants as members
@@ -25,8 +24,3 @@ carried q P = record { performed = same_edit q P; scratch = refl }
 pub by_erase : (fs : List ℕ) (w : Member) → edit_by (Erase w) fs ≡ erase_by (member_of w) (get_or fs 0 0)
 by_erase fs members.Operation = by_erase_operation fs
 by_erase fs members.Block = by_erase_block fs
-
--- the edit by the number of its kind
-pub numbered : {k : Kind} (K : Kind) (fs : List ℕ) → k ≡ K → edit_by k fs ≡ edit_of (kind_number K) fs
-unfolding edit_by
-numbered K fs e = ap (λ (k : Kind). edit_by k fs) e

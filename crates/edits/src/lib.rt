@@ -42,6 +42,7 @@ pub fn perform(m: &mut [u32], scratch: &mut [u32], l: Layout, rec: &[u8], kind: 
         Kind::RetargetSome => uses::retarget_some(m, l, rec),
         Kind::DropUses(thing) => walk::drop_uses(m, l, thing, a),
         Kind::Erase(member) => walk::erase(m, l, scratch, member, a),
+        // Kept (point 4): u32 to usize has no From; a narrower parameter there would ask more.
         Kind::EraseRegion => walk::erase_region(m, l, scratch, a, b as usize),
         Kind::Verdict(thing) => walk::verdict(m, l, thing, a),
     }

@@ -12,9 +12,11 @@ ghost use Rattle.ffi.specs.Called.{layout_by, WordsCalled, ToldAnswer, EditCalle
 
 use context::Layout;
 use edit::{Answer, Refusal};
+use listing::Pen;
 use readers::Definition;
 
 // Kept (point 5): five capacities are five parameters of the C interface.
+// Kept (point 4): neither u32 to usize nor usize to u64 has a From; here and below.
 // The capacities as the store takes them.
 fn layout(ops: u32, blocks: u32, regions: u32, values: u32, uses: u32) -> Layout
     ensures { result ≡ layout_by ops blocks regions values uses }
@@ -35,7 +37,7 @@ fn code<T: Copy>(r: Result<T, Refusal>) -> u32
 {
     match r {
         Ok(_) => 0,
-        Err(refusal) => refusal.number(),
+        Err(refusal) => u32::from(refusal),
     }
 }
 
@@ -86,7 +88,7 @@ pub extern "C" fn recipe_edit(
 {
     if answer.len() < 3 {
         scratch.fill(0);
-        return Refusal::NoRoom.number();
+        return u32::from(Refusal::NoRoom);
     }
     tell_answer(script::edit(store, scratch, bytes), answer)
 }
@@ -128,16 +130,16 @@ pub extern "C" fn recipe_listing(
 {
     *length = 0;
     if !sound::check(store) {
-        return Refusal::Unsound.number();
+        return u32::from(Refusal::Unsound);
     }
     let l = context::layout_of(store);
-    let n = answers.len() / 3;
-    if n > u32::MAX as usize {
-        return Refusal::NoRoom.number();
+    if answers.len() / 3 > u32::MAX as usize {
+        return u32::from(Refusal::NoRoom);
     }
-    let a = listing::write_answers(answers, n, out, 0);
-    let b = listing::write_listing(store, l, out, a);
-    *length = b as u64;
+    let mut pen = Pen { out, at: 0 };
+    listing::write_answers(answers, &mut pen);
+    listing::write_listing(store, l, &mut pen);
+    *length = pen.at as u64;
     0
 }
 

@@ -14,7 +14,8 @@ use borrow.Author.Tests.{eqb-true, eqb-false}
 use Rattle.seqs.specs.Seqs.{Says, seq_insert_at}
 use Rattle.seqs.proofs.Base.{length_insert_at}
 use Rattle.std.specs.Prelude.{Option, Some, None}
-use Rattle.linked_list.specs.Links.{code, at, place, after, before, home, Row, Free, Held, Linked, lists, walk}
+use Rattle.seqs.specs.Cells.{code}
+use Rattle.linked_list.specs.Links.{at, place, after, before, home, Row, Free, Held, Linked, lists, walk}
 use Rattle.linked_list.specs.Check.{row_at, tot, RowFound, RowsFound, frees, FreesFound, keep}
 use Rattle.linked_list.proofs.Laws.{at_inj, unshift, at_ins_lt, at_ins_eq, place_ins_le, at_lt, at_out, at_end, Spot, spot, left, here, next, right}
 use Rattle.linked_list.proofs.View.{pigeon, find, out_of, get_d_tab, lists_count, row_is}

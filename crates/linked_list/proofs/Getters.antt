@@ -10,47 +10,16 @@ use native.Mathlib.Omega.{arith}
 use native.Mathlib.Numerals.{add-one}
 use lib.ListN.{length, get_or}
 use lib.Dec.{eqb}
-use borrow.Author.Tests.{eq-eqb, ne_eqb, eqb-true}
-use Rattle.std.specs.Option.{option_eq}
+use borrow.Author.Tests.{eq-eqb, ne_eqb}
 use Rattle.std.specs.Prelude.{Option, Some, None, slice_get, option_map, is_some}
-use Rattle.linked_list.specs.Links.{code, decoded, at, place, preceding, home, Row, Free, Held, Links, has, row_of, cont_of, HomeIn, next_in, prev_in, last_in, choose, container}
+use Rattle.seqs.specs.Cells.{code, decoded}
+use Rattle.seqs.proofs.Cells.{some_of, zero_of, above_of, stored, stored_some, stored_none}
+use Rattle.linked_list.specs.Links.{at, place, preceding, home, Row, Free, Held, Links, has, row_of, cont_of, HomeIn, next_in, prev_in, last_in, choose, container}
 use Rattle.seqs.specs.Seqs.{index_of}
 use Rattle.linked_list.proofs.Laws.{at_lt, at_out, at_end}
 use Rattle.linked_list.proofs.View.{seat, index_at}
 
--- ---- stored numbers
-
-pub code_decoded : (k : ℕ) → code (decoded k) ≡ k
-code_decoded zero = refl
-code_decoded (suc k) = refl
-
-some_of : {k : ℕ} {r : Option ℕ} → r ≡ decoded k → 0 < k → is_some r ≡ true
-some_of {k = zero} e h = absurd (omega arith)
-some_of {k = suc k} e h = rw e refl
-
--- what is stored, from what was read
-pub stored : {k : ℕ} {r : Option ℕ} → r ≡ decoded k → code r ≡ k
-stored {k} e = ap code e ∙ code_decoded k
-
-pub stored_some : {k x : ℕ} {r : Option ℕ} → r ≡ decoded k → r ≡ Some x → k ≡ suc x
-stored_some e w = sym (stored e) ∙ ap code w
-
-pub stored_none : {k : ℕ} {r : Option ℕ} → r ≡ decoded k → r ≡ None → k ≡ 0
-stored_none e w = sym (stored e) ∙ ap code w
-
--- what `==` and `!=` tell of two
-pub same : (a b : Option ℕ) → true ≡ option_eq eqb a b → a ≡ b
-same None None e = refl
-same None (Some y) e = let z : ◌≡◌ {A = ℕ} 0 1 = cc in absurd (omega arith)
-same (Some x) None e = let z : ◌≡◌ {A = ℕ} 0 1 = cc in absurd (omega arith)
-same (Some x) (Some y) e = ap Some (eqb-true x y (sym e))
-
-pub not_differ : (a b : Option ℕ) → false ≡ not (option_eq eqb a b) → a ≡ b
-not_differ a b e = same a b (un (option_eq eqb a b) e)
-  where
-    un : (t : Bool) → false ≡ not t → true ≡ t
-    un true h = refl
-    un false h = sym h
+-- ---- stored nodes
 
 pub decoded_at : (l : List ℕ) (i : ℕ) → decoded (at l i) ≡ slice_get l i
 decoded_at [] i = refl
@@ -169,14 +138,12 @@ home_cell {nc} {nn} {s} {ls} L n r n< H = go (L.node n n<)
         (H.one K.cont K.cont<).1 (((home_in L n n<).one K.cont K.cont<).0 e) ∙ sym e
 
 -- a node with no container has none stored, and a node with a container has one stored
-module _ {nc nn : ℕ} {s : List ℕ} {ls : List (List ℕ)} (L : Links nc nn s ls) (n : ℕ) (n< : n < nn) {b : Bool} where
-  pub home_free : (r : Option ℕ) → HomeIn nc ls n r → b ≡ is_some r → b ≡ false → get_or s (home nc nn n) 0 ≡ 0
-  home_free None H t f = sym (stored (home_cell L n None n< H))
-  home_free (Some c) H t f = let z : ◌≡◌ {A = ℕ} 0 1 = cc in absurd (omega arith)
+module _ {nc nn : ℕ} {s : List ℕ} {ls : List (List ℕ)} (L : Links nc nn s ls) (n : ℕ) (n< : n < nn) where
+  pub home_free : false ≡ is_some (cont_of n ls) → get_or s (home nc nn n) 0 ≡ 0
+  home_free e = zero_of (sym (cells L n n<).cont) (sym e)
 
-  pub home_held : (r : Option ℕ) → HomeIn nc ls n r → is_some r ≡ not b → b ≡ false → 0 < get_or s (home nc nn n) 0
-  home_held None H t f = let w : false ≡ true = t ∙ ap not f in let z : ◌≡◌ {A = ℕ} 0 1 = cc in absurd (omega arith)
-  home_held (Some c) H t f = omega (arith, stored (home_cell L n (Some c) n< H))
+  pub home_held : true ≡ is_some (cont_of n ls) → 0 < get_or s (home nc nn n) 0
+  home_held e = omega (arith, above_of (sym (cells L n n<).cont) (sym e))
 
 pub tail_cell : {nc nn c : ℕ} {s l : List ℕ} → Row nc nn s c l → get_or s (nc + c) 0 ≡ place l (length l)
 tail_cell {nc} {nn} {c} {s} {l} R =

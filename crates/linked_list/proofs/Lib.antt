@@ -2,5 +2,6 @@ pub mod Laws
 pub mod View
 pub mod Getters
 pub mod Moves
+pub mod Along
 pub mod Checks
 pub mod Index

@@ -4,16 +4,8 @@
 -- Assumes nothing: these are definitions.
 use Rattle.std.specs.Prelude.{◌≡◌, ◌⊎◌, ◌≢◌, ◌↔◌, Bool, true, false, List, [], ◌∷◌, ◌++◌, ℕ, zero, suc, ◌+◌, ◌-◌, ◌*◌, ◌<◌, ◌≤◌, length, get_or, set, replicate, eqb, slice_get, Option, Some, None, option_map}
 use Rattle.std.proofs.Math.Decide.{ℕ_discrete}
+use Rattle.seqs.specs.Cells.{code}
 use Rattle.seqs.specs.Seqs.{seq_insert_at, index_of}
-
--- what is stored for a node, a container or none, and what a stored number means
-abbrev pub code : Option ℕ → ℕ
-code None = 0
-code (Some k) = suc k
-
-abbrev pub decoded : ℕ → Option ℕ
-decoded zero = None
-decoded (suc k) = Some k
 
 -- what is stored for the i-th node of l: the node + 1, and 0 past the end
 abbrev pub at : List ℕ → ℕ → ℕ
@@ -98,6 +90,19 @@ container nc nn s n = get_or s (home nc nn n) 0 - 1
 
 abbrev pub list_of : ℕ → ℕ → List ℕ → ℕ → List ℕ
 list_of nc nn s n = row nc nn s (container nc nn s n)
+
+-- the nodes from k on, where k is none or a node of a list
+abbrev pub rest_from : ℕ → ℕ → List ℕ → Option ℕ → List ℕ
+rest_from nc nn s k = walk nc s nn (code k)
+
+-- s is well linked, and k is what follows the first nodes of one of its lists
+pub record OnRow (nc nn : ℕ) (s : List ℕ) (k : Option ℕ) : Type 0 where
+  pub linked : Linked nc nn s
+  pub cont : ℕ
+  pub index : ℕ
+  pub cont< : cont < nc
+  pub index≤ : index ≤ length (row nc nn s cont)
+  pub there : k ≡ slice_get (row nc nn s cont) index
 
 -- the limits
 pub record Sizes (nc nn : ℕ) : Type 0 where

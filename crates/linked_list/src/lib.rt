@@ -1,5 +1,5 @@
 // Doubly-linked lists over numbers. Ported from src/linked_list.rs of pliron 0.20.0 (Apache-2.0): its functions by name and in its
-// order. `nth`, `count`, `get_home`, `insert_at`, `init` and `check_links` are added. Where pliron's functions panic, these require.
+// order. `nth`, `count`, `insert_at`, `init` and `check_links` are added. Where pliron's functions panic, these require.
 //
 // All is in one lent slice `s` of 2 * nc + 3 * nn numbers: for nc containers the heads, then the tails; for nn nodes the nexts,
 // then the prevs, then the containers. A stored 0 means none, and k + 1 means k.
@@ -8,10 +8,14 @@
 ghost use Rattle.std.specs.Prelude.{◌≡◌, ◌≢◌, [], ◌∷◌, ◌++◌, ◌+◌, ◌*◌, ◌^◌, ◌<◌, ◌≤◌, get_or, length, is_some, slice_get};
 ghost use Rattle.std.proofs.Math.Decide.{ℕ_discrete};
 ghost use Rattle.seqs.specs.Seqs.{Says, seq_insert_at, without};
-ghost use Rattle.linked_list.specs.Links.{code, decoded, after, before, home, Linked, lists, row, container, list_of, Sizes};
+ghost use Rattle.seqs.specs.Cells.{code, decoded};
+ghost use Rattle.linked_list.specs.Links.{after, before, home, Linked, lists, row, container, list_of, Sizes};
 ghost use Rattle.linked_list.specs.Links.{Rowed, Appended, Emptied, put_in, taken_out_of, insert_after, insert_before};
 ghost use Rattle.linked_list.specs.Links.{next_in, prev_in, last_in, row_of, cont_of, HomeIn};
 ghost use Rattle.linked_list.specs.Check.{RowFound, RowsFound, FreesFound};
+ghost use Rattle.std.specs.Iterator.{YieldsFirst, item_count};
+
+use std::marker::Model;
 
 /// The sizes of a family of lists in one slice: nc containers and nn nodes.
 #[derive(Clone, Copy)]
@@ -19,6 +23,39 @@ pub struct Lists {
     pub nc: usize,
     pub nn: usize,
     pub ghost sizes: { Sizes nc nn },
+}
+
+/// The nodes of a list, in order: seen as those that are still to come.
+#[derive(Drop)]
+pub struct Nodes<'a> {
+    lists: Lists,
+    words: &'a [u32],
+    next: Option<usize>,
+}
+
+impl<'a> Model for Nodes<'a> {
+    ghost use Rattle.std.specs.Prelude.{ℕ, List};
+    ghost use Rattle.linked_list.specs.Links.{rest_from, OnRow};
+
+    ghost Value = { List ℕ };
+
+    ghost view = { λ it. rest_from it.lists.nc it.lists.nn it.words.now it.next };
+
+    ghost invariant = { λ it. OnRow it.lists.nc it.lists.nn it.words.now it.next };
+}
+
+impl<'a> Iterator for Nodes<'a> {
+    type Item = usize;
+
+    ghost next_gives = { YieldsFirst (λ rest. rest) };
+
+    ghost remaining = { item_count (λ rest. rest) };
+
+    fn next(&mut self) -> Option<usize> {
+        let n = self.next?;
+        self.next = self.lists.get_next(self.words, n);
+        Some(n)
+    }
 }
 
 // What a stored number means.
@@ -116,9 +153,9 @@ impl Lists {
         let b = self.slot_before(q, c);
         s[a] = encode(q);
         s[b] = encode(p);
-        s[self.next_slot(n)] = 0;
-        s[self.prev_slot(n)] = 0;
-        s[self.home_slot(n)] = 0;
+        s[self.next_slot(n)] = encode(None);
+        s[self.prev_slot(n)] = encode(None);
+        s[self.home_slot(n)] = encode(None);
     }
 
     /// The head of c's list.
@@ -139,6 +176,19 @@ impl Lists {
         decode(s[self.nc + c])
     }
 
+    /// The nodes of c's list, from its head on.
+    pub fn iter(self, s: &[u32], c: usize) -> Nodes<'_>
+        requires linked { Linked self.nc self.nn s.now }
+        requires c_lt_nc { c < self.nc }
+        ensures { result ≡ row self.nc self.nn s.now c }
+    {
+        Nodes {
+            lists: self,
+            words: s,
+            next: self.get_head(s, c),
+        }
+    }
+
     /// The node at index i of c's list, found by a walk.
     pub fn nth(self, s: &[u32], c: usize, i: usize) -> usize
         requires linked { Linked self.nc self.nn s.now }
@@ -146,11 +196,7 @@ impl Lists {
         requires i_in_bounds { i < length (row self.nc self.nn s.now c) }
         ensures { result ≡ get_or (row self.nc self.nn s.now c) i 0 }
     {
-        let mut n = self.get_head(s, c).unwrap();
-        for _j in 0..i {
-            n = self.get_next(s, n).unwrap();
-        }
-        n
+        self.iter(s, c).nth(i).unwrap()
     }
 
     /// How many nodes c's list has, counted by a walk.
@@ -159,13 +205,7 @@ impl Lists {
         requires c_lt_nc { c < self.nc }
         ensures { result ≡ length (row self.nc self.nn s.now c) }
     {
-        let mut at = self.get_head(s, c);
-        let mut j = 0;
-        while let Some(n) = at {
-            at = self.get_next(s, n);
-            j += 1;
-        }
-        j
+        self.iter(s, c).count()
     }
 
     /// The node after n in the list that has n; none for a node in no list.
@@ -186,22 +226,14 @@ impl Lists {
         decode(s[self.prev_slot(n)])
     }
 
-    /// The container whose list has n.
+    /// The container whose list has n: none exactly if no list has n, and c exactly if c's list has it.
     pub fn get_container(self, s: &[u32], n: usize) -> Option<usize>
         requires linked { Linked self.nc self.nn s.now }
         requires n_lt_nn { n < self.nn }
-        ensures { result ≡ cont_of n (lists self.nc self.nn s.now) }
+        ensures container { result ≡ cont_of n (lists self.nc self.nn s.now) }
+        ensures home { HomeIn self.nc (lists self.nc self.nn s.now) n result }
     {
         decode(s[self.home_slot(n)])
-    }
-
-    /// The same, said list by list: none exactly if no list has n, and c exactly if c's list has it.
-    pub fn get_home(self, s: &[u32], n: usize) -> Option<usize>
-        requires linked { Linked self.nc self.nn s.now }
-        requires n_lt_nn { n < self.nn }
-        ensures { HomeIn self.nc (lists self.nc self.nn s.now) n result }
-    {
-        self.get_container(s, n)
     }
 
     /// Appends all nodes of the list of `donor` to the back of the list of `donee`, and leaves `donor` empty. The two must differ.
@@ -310,6 +342,7 @@ impl Lists {
         s.fill(0);
     }
 
+    // Kept (point 3): these links are not yet known to be a list's, so that no iterator over them can say what comes, or that it ends.
     // The length of c's list, if that is well formed and has at most b nodes.
     fn check_row(self, s: &[u32], c: usize, b: usize) -> Option<usize>
         requires s_len { length s.now ≡ 2 * self.nc + 3 * self.nn }
@@ -357,8 +390,10 @@ impl Lists {
     {
         let mut f: usize = 0;
         for n in 0..self.nn {
-            if s[self.home_slot(n)] == 0 {
-                if s[self.next_slot(n)] != 0 || s[self.prev_slot(n)] != 0 {
+            if decode(s[self.home_slot(n)]).is_none() {
+                if decode(s[self.next_slot(n)]).is_some()
+                    || decode(s[self.prev_slot(n)]).is_some()
+                {
                     return None;
                 }
                 f += 1;

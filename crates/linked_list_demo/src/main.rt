@@ -15,10 +15,79 @@ ghost use Rattle.linked_list.specs.Links.{Linked};
 use linked_list::Lists;
 use std::io;
 
+// Where in a container's list a node is put: at its front, at its back, or at an index.
+#[derive(Clone, Copy)]
+enum Place {
+    Front,
+    Back,
+    At(usize),
+}
+
+// On which side of a node another is put.
+#[derive(Clone, Copy)]
+enum Side {
+    After,
+    Before,
+}
+
+#[derive(Clone, Copy)]
+enum Step {
+    Insert { at: Place, c: usize, n: usize },
+    Beside { side: Side, m: usize, n: usize },
+    Unlink { n: usize },
+    Append { donee: usize, donor: usize },
+    Tear { at: usize, v: u32 },
+    Neighbours,
+}
+
 fn digit(b: u8) -> usize
     ensures { result ≤ 255 }
 {
     b.saturating_sub(b'0') as usize
+}
+
+// The step that a letter and three digits say; none for another letter.
+fn step_of(text: [u8; 4]) -> Option<Step> {
+    let [letter, a, b, c] = text;
+    let x = digit(a);
+    let y = digit(b);
+    let n = digit(c);
+    let step = match letter {
+        b'F' => Step::Insert {
+            at: Place::Front,
+            c: x,
+            n,
+        },
+        b'B' => Step::Insert {
+            at: Place::Back,
+            c: x,
+            n,
+        },
+        b'I' => Step::Insert {
+            at: Place::At(y),
+            c: x,
+            n,
+        },
+        b'A' => Step::Beside {
+            side: Side::After,
+            m: x,
+            n,
+        },
+        b'P' => Step::Beside {
+            side: Side::Before,
+            m: x,
+            n,
+        },
+        b'U' => Step::Unlink { n },
+        b'M' => Step::Append { donee: x, donor: y },
+        b'T' => Step::Tear {
+            at: 10 * x + y,
+            v: n as u32,
+        },
+        b'N' => Step::Neighbours,
+        _ => return None,
+    };
+    Some(step)
 }
 
 // A node or a container as it is stored: 0 for none.
@@ -26,35 +95,31 @@ fn stored(k: Option<usize>) -> usize {
     k.map_or(0, |k| k.saturating_add(1))
 }
 
-// Inserts n into c's list: at its front, at its back, or at index i.
-fn insert(lists: Lists, s: &mut [u32], what: u8, c: usize, i: usize, n: usize) -> bool
+// Inserts n into c's list.
+fn insert(lists: Lists, s: &mut [u32], at: Place, c: usize, n: usize) -> bool
     requires linked { Linked lists.nc lists.nn s.old }
 {
-    if c >= lists.nc || n >= lists.nn || lists.get_home(s, n).is_some() {
+    if c >= lists.nc || n >= lists.nn || lists.is_linked(s, n) {
         return false;
     }
-    match what {
-        b'F' => lists.insert_at_front(s, c, n),
-        b'B' => lists.insert_at_back(s, c, n),
-        _ => lists.insert_at(s, c, i, n),
+    match at {
+        Place::Front => lists.insert_at_front(s, c, n),
+        Place::Back => lists.insert_at_back(s, c, n),
+        Place::At(i) => lists.insert_at(s, c, i, n),
     }
     true
 }
 
-// Inserts n after or before the mark m.
-fn insert_by_mark(lists: Lists, s: &mut [u32], what: u8, m: usize, n: usize) -> bool
+// Inserts n beside the mark m.
+fn insert_beside(lists: Lists, s: &mut [u32], side: Side, m: usize, n: usize) -> bool
     requires linked { Linked lists.nc lists.nn s.old }
 {
-    if m >= lists.nn
-        || n >= lists.nn
-        || lists.get_home(s, m).is_none()
-        || lists.get_home(s, n).is_some()
-    {
+    if m >= lists.nn || n >= lists.nn || !lists.is_linked(s, m) || lists.is_linked(s, n) {
         return false;
     }
-    match what {
-        b'A' => lists.insert_after(s, m, n),
-        _ => lists.insert_before(s, m, n),
+    match side {
+        Side::After => lists.insert_after(s, m, n),
+        Side::Before => lists.insert_before(s, m, n),
     }
     true
 }
@@ -62,7 +127,7 @@ fn insert_by_mark(lists: Lists, s: &mut [u32], what: u8, m: usize, n: usize) -> 
 fn unlink(lists: Lists, s: &mut [u32], n: usize) -> bool
     requires linked { Linked lists.nc lists.nn s.old }
 {
-    if n >= lists.nn || lists.get_home(s, n).is_none() {
+    if n >= lists.nn || !lists.is_linked(s, n) {
         return false;
     }
     lists.unlink(s, n);
@@ -89,37 +154,22 @@ fn tear(s: &mut [u32], at: usize, v: u32) -> bool {
     }
 }
 
-// A step that changes lists which are well linked.
-fn change(lists: Lists, s: &mut [u32], what: u8, x: usize, y: usize, n: usize) -> bool
-    requires linked { Linked lists.nc lists.nn s.old }
-{
-    match what {
-        b'U' => unlink(lists, s, n),
-        b'M' => append(lists, s, x, y),
-        b'A' | b'P' => insert_by_mark(lists, s, what, x, n),
-        _ => insert(lists, s, what, x, y, n),
-    }
-}
-
 // One step, on a slice of any contents: whether it is done, or refused.
-fn act(rt: &impl Print, lists: Lists, s: &mut [u32], step: [u8; 4]) -> io::Result<bool>
+fn act(rt: &impl Print, lists: Lists, s: &mut [u32], step: Step) -> io::Result<bool>
     requires s_len { length s.old ≡ 2 * lists.nc + 3 * lists.nn }
 {
-    let [what, a, b, c] = step;
-    let x = digit(a);
-    let y = digit(b);
-    let n = digit(c);
-    if what == b'T' {
-        return Ok(tear(s, 10 * x + y, n as u32));
-    }
-    if !lists.check_links(s) {
-        return Ok(false);
-    }
-    if what == b'N' {
-        neighbours(rt, lists, s)?;
-        return Ok(true);
-    }
-    Ok(change(lists, s, what, x, y, n))
+    Ok(match step {
+        Step::Tear { at, v } => tear(s, at, v),
+        _ if !lists.check_links(s) => false,
+        Step::Insert { at, c, n } => insert(lists, s, at, c, n),
+        Step::Beside { side, m, n } => insert_beside(lists, s, side, m, n),
+        Step::Unlink { n } => unlink(lists, s, n),
+        Step::Append { donee, donor } => append(lists, s, donee, donor),
+        Step::Neighbours => {
+            neighbours(rt, lists, s)?;
+            true
+        }
+    })
 }
 
 // c's list, with its head and tail as they are stored.
@@ -163,16 +213,16 @@ fn show(rt: &impl Print, lists: Lists, s: &[u32]) -> io::Result<()>
     println!(rt)
 }
 
-fn take_step(rt: &impl Print, lists: Lists, s: &mut [u32], step: [u8; 4]) -> io::Result<()>
+fn take_step(rt: &impl Print, lists: Lists, s: &mut [u32], text: [u8; 4]) -> io::Result<()>
     requires s_len { length s.old ≡ 2 * lists.nc + 3 * lists.nn }
 {
-    let [what, a, b, c] = step.map(char::from);
+    let [what, a, b, c] = text.map(char::from);
     print!(rt; "{what}{a}{b}{c}")?;
-    let outcome = if act(rt, lists, s, step)? {
-        "done"
-    } else {
-        "refused"
+    let done = match step_of(text) {
+        Some(step) => act(rt, lists, s, step)?,
+        None => false,
     };
+    let outcome = if done { "done" } else { "refused" };
     print!(rt; " {outcome}")?;
     show(rt, lists, s)
 }
@@ -185,8 +235,8 @@ fn play(rt: &impl Print, lists: Lists, s: &mut [u32], steps: &[u8]) -> io::Resul
     lists.init(s);
     print!(rt; "init")?;
     show(rt, lists, s)?;
-    for &step in steps.as_chunks().0 {
-        take_step(rt, lists, s, step)?;
+    for &text in steps.as_chunks().0 {
+        take_step(rt, lists, s, text)?;
     }
     Ok(())
 }

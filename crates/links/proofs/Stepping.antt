@@ -1,10 +1,10 @@
 -- The steps of the climb on the memory, from what the readers say. Assumes nothing.
-use mathlib.Core.Path.{◌≡◌}
+use mathlib.Core.Path.{◌≡◌, sym, subst}
 use mathlib.Core.Logic.{◌≢◌}
 use mathlib.Core.Bool.{Bool, false}
 use mathlib.Core.List.{List}
 use Prim.Native.Nat.{ℕ, suc, ◌-◌, ◌<◌}
-use Rattle.std.specs.Prelude.{Some, None}
+use Rattle.std.specs.Prelude.{Option, Some, None, MatchOption}
 use Rattle.seqs.specs.Seqs.{Says}
 use Rattle.places.specs.Store.{op, blk, reg, ops, blocks, regs, ops_in, blocks_in, Thing, Live, up}
 use Rattle.places.specs.Parts.{rows_of}
@@ -25,12 +25,11 @@ module _ {l : Layout} {m : List ℕ} (S : SoundStore l m) where
   block_live o b H = (S.sound.linked.link (op, o) ops_in (ops, (blk, b)) H.own).home
 
   module _ (X : Thing) where
-    pub region_end : (r : ℕ) → (X ≡ (reg, r) → ⊥) → HomeIs l regs r m None → StepIs (state_of l m) X (reg, r) (λ n. suc n) Ended
-    region_end r d H = region_top S.sound X r d H.own
-
-    pub region_on : (r p : ℕ) → (X ≡ (reg, r) → ⊥) → HomeIs l regs r m (Some p) → StepIs (state_of l m) X (reg, r) (λ n. suc n) (At p)
+    -- from the operation that the region is of, or from none
+    pub region_from : (r : ℕ) (h : Option ℕ) (s : Step) → (X ≡ (reg, r) → ⊥) → HomeIs l regs r m h → MatchOption h (s ≡ Ended) (λ p. s ≡ At p) → StepIs (state_of l m) X (reg, r) (λ n. suc n) s
     unfolding rows_of
-    region_on r p d H = region_up S.sound X r p d H.own
+    region_from r None s d H e = subst (StepIs (state_of l m) X (reg, r) (λ n. suc n)) (sym e) (region_top S.sound X r d H.own)
+    region_from r (Some p) s d H e = subst (StepIs (state_of l m) X (reg, r) (λ n. suc n)) (sym e) (region_up S.sound X r p d H.own)
 
     pub block_end : (b : ℕ) → (X ≡ (blk, b) → ⊥) → HomeIs l blocks_in b m None → StepIs (state_of l m) X (blk, b) (λ n. suc (suc n)) Ended
     block_end b d H = block_top S.sound X b d H.own

@@ -6,14 +6,8 @@ use Rattle.seqs.specs.Seqs.{tick}
 use Rattle.places.specs.Store.{op, Thing, Thing-dec, State, Live, up}
 use Rattle.places.specs.Walk.{over}
 use Rattle.edit.specs.Record.{Member, operation, block}
-use Rattle.context.specs.Nest.{nested_kind}
-use Rattle.links.specs.declared.Sought.{Sought}
 use Rattle.links.specs.declared.Step.{Step}
 use Rattle.links.specs.declared.Step.TheVariants.{Ended, Met, At}
-
--- the thing that is looked for
-abbrev pub thing_at : Sought → Thing
-thing_at x = (nested_kind x.kind, x.place)
 
 -- how often x is met in n steps up from y
 abbrev pub climbed : (Thing → Option Thing) → ℕ → Thing → Thing → ℕ

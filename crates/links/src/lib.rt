@@ -12,32 +12,17 @@ ghost use Rattle.places.specs.Walk.{walk};
 ghost use Rattle.places.specs.Members.{member_at, container_at, enter_code, beside_code};
 ghost use Rattle.places.specs.Roles.{container_kind};
 ghost use Rattle.context.specs.Kinds.{kind_of};
-ghost use Rattle.context.specs.Nest.{nested_kind};
+ghost use Rattle.context.specs.Nest.{nested_kind, thing_at};
 ghost use Rattle.context.specs.Memory.{state_of, SoundStore};
 ghost use Rattle.context.specs.Performed.{Performed};
-ghost use Rattle.links.specs.Climbing.{thing_at, climbed, thrice, StepIs, container_steps};
+ghost use Rattle.links.specs.Climbing.{climbed, thrice, StepIs, container_steps};
 ghost use Rattle.links.specs.Tests.{EnterTested, BesideTested};
 ghost use Rattle.links.specs.Moving.{MayMove, MoveTested};
 
-use context::{Family, Kind, Layout};
-use edit::{Answer, Member, Nested, Refusal};
+use context::{Family, Kind, Layout, Thing};
+use edit::{Answer, MOST_LISTED, Member, Nested, Refusal};
 
-// What the climb looks for: a thing with an inside, by its kind and its place.
-#[derive(Clone, Copy)]
-struct Sought {
-    kind: Nested,
-    place: usize,
-}
-
-impl Sought {
-    // Whether it is the thing of this kind at this place.
-    fn is(self, kind: Nested, place: usize) -> bool
-        ensures { Says result (thing_at self ≡ (nested_kind kind, place)) }
-    {
-        self.kind == kind && self.place == place
-    }
-}
-
+// Kept (point 1): the climb has three outcomes; in an Option of a Result the two ends would lose their names.
 // Where a part of the climb comes to: at its end, at what it looks for, or at the operation at a place.
 #[derive(Clone, Copy)]
 enum Step {
@@ -57,48 +42,51 @@ fn container(w: Member) -> Kind
 }
 
 // The member at the place `n`.
-fn member(w: Member, n: usize) -> Sought
+fn member(w: Member, n: usize) -> Thing
     ensures { thing_at result ≡ member_at (member_of w) n }
 {
-    let kind = match w {
-        Member::Operation => Nested::Operation,
-        Member::Block => Nested::Block,
-    };
-    Sought { kind, place: n }
+    Thing {
+        kind: Nested::from(w),
+        place: n,
+    }
+}
+
+// Whether `x` is the thing of this kind at this place.
+fn is_at(x: Thing, kind: Nested, place: usize) -> bool
+    ensures { Says result (thing_at x ≡ (nested_kind kind, place)) }
+{
+    x == (Thing { kind, place })
 }
 
 // From the region at `r` up to its operation, unless the region is `x`.
-fn region_step(m: &[u32], l: Layout, x: Sought, r: usize) -> Step
+fn region_step(m: &[u32], l: Layout, x: Thing, r: usize) -> Step
     requires sound_store { SoundStore l m.now }
     requires live { Live (state_of l m.now) (reg, r) }
     ensures { StepIs (state_of l m.now) (thing_at x) (reg, r) (λ n. suc n) result }
 {
-    if x.is(Nested::Region, r) {
+    if is_at(x, Nested::Region, r) {
         return Step::Met;
     }
-    match context::home_of(m, l, Family::Regions, r) {
-        Some(o) => Step::At(o),
-        None => Step::Ended,
-    }
+    context::home_of(m, l, Family::Regions, r).map_or(Step::Ended, Step::At)
 }
 
 // The same from the block at `b`, over its region; a block in none is an end.
-fn block_step(m: &[u32], l: Layout, x: Sought, b: usize) -> Step
+fn block_step(m: &[u32], l: Layout, x: Thing, b: usize) -> Step
     requires sound_store { SoundStore l m.now }
     requires live { Live (state_of l m.now) (blk, b) }
     ensures { StepIs (state_of l m.now) (thing_at x) (blk, b) (λ n. suc (suc n)) result }
 {
-    if x.is(Nested::Block, b) {
+    if is_at(x, Nested::Block, b) {
         return Step::Met;
     }
-    match context::home_of(m, l, Family::Blocks, b) {
-        Some(r) => region_step(m, l, x, r),
-        None => Step::Ended,
-    }
+    let Some(r) = context::home_of(m, l, Family::Blocks, b) else {
+        return Step::Ended;
+    };
+    region_step(m, l, x, r)
 }
 
 // The same from the container at `c`, a block or a region.
-fn container_step(m: &[u32], l: Layout, w: Member, x: Sought, c: usize) -> Step
+fn container_step(m: &[u32], l: Layout, w: Member, x: Thing, c: usize) -> Step
     requires sound_store { SoundStore l m.now }
     requires live { Live (state_of l m.now) (container_at (member_of w) c) }
     ensures { StepIs (state_of l m.now) (thing_at x) (container_at (member_of w) c) (container_steps (member_of w)) result }
@@ -110,7 +98,7 @@ fn container_step(m: &[u32], l: Layout, w: Member, x: Sought, c: usize) -> Step
 }
 
 // Whether the operation at `o` is `x`, or lies in it: climbs from parent to parent.
-fn operation_in(m: &[u32], l: Layout, x: Sought, o: usize, depth: usize) -> bool
+fn operation_in(m: &[u32], l: Layout, x: Thing, o: usize, depth: usize) -> bool
     requires sound_store { SoundStore l m.now }
     requires live { Live (state_of l m.now) (op, o) }
     ensures { Says result (0 < climbed (up (state_of l m.now)) (thrice depth) (thing_at x) (op, o)) }
@@ -118,7 +106,7 @@ fn operation_in(m: &[u32], l: Layout, x: Sought, o: usize, depth: usize) -> bool
     if depth == 0 {
         return false;
     }
-    if x.is(Nested::Operation, o) {
+    if is_at(x, Nested::Operation, o) {
         return true;
     }
     let Some(b) = context::home_of(m, l, Family::Operations, o) else {
@@ -277,14 +265,14 @@ fn may_move(m: &[u32], l: Layout, n: usize, k: usize) -> Result<(), Refusal>
     if context::home_of(m, l, Family::Regions, n) == Some(k) {
         return Ok(());
     }
-    let x = Sought {
+    let x = Thing {
         kind: Nested::Region,
         place: n,
     };
     if operation_in(m, l, x, k, context::live_count(m, l, Kind::Operation)) {
         return Err(Refusal::InsideItself);
     }
-    if context::row_length(m, l, Family::Regions, k) >= context::MOST_LISTED {
+    if context::row_length(m, l, Family::Regions, k) >= MOST_LISTED {
         return Err(Refusal::ListFull);
     }
     Ok(())

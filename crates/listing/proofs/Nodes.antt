@@ -2,7 +2,7 @@
 use mathlib.Core.Path.{◌≡◌, refl, sym, ap, ap₂, ◌∙◌, subst}
 use mathlib.Core.Bool.{Bool, true, false}
 use mathlib.Core.List.{List, [], ◌∷◌, ◌++◌, append_assoc, append-nil}
-use lib.ListN.{length, take, drop, get_or}
+use lib.ListN.{length, drop, get_or}
 use Rattle.std.specs.Simd.{first_chunks}
 use Rattle.std.proofs.lemmas.List.{get_or-take, get_or-drop}
 use mathlib.Core.Option.{Option}
@@ -19,8 +19,6 @@ use Rattle.places.specs.Hist.{number}
 use Rattle.places.specs.Parts.{node_in, con_of, rows_of}
 use Rattle.places.specs.Alias.{RState}
 use Rattle.edit.specs.Answer.{Reply}
-use Rattle.rules.specs.Table.{find}
-use Rattle.rules.specs.Step.{definition_number}
 use Rattle.rules.specs.Listing as rules
 use Rattle.context.specs.declared.Layout.{Layout}
 use Rattle.context.specs.Layout.{cap_of, nn_of, Caps}
@@ -34,10 +32,12 @@ use Rattle.edit.specs.declared.Nested.{Nested}
 use Rattle.edit.specs.declared.Nested.TheVariants.{Operation, Block, Region}
 use Rattle.context.specs.Memory.{con, given, state_of, SoundStore, HomeIs}
 use Rattle.context.specs.Performed.{abs}
+use Rattle.context.specs.Reading.{DefinitionIs}
 use Rattle.listing.specs.declared.Pen.{Pen}
 use Rattle.listing.specs.Writer.{Wrote}
 use Rattle.listing.specs.Lines.{node_text, home_number, Holders, reply_listed, replies_from}
 use Rattle.listing.proofs.Pens.{nothing, and_then, same_text}
+use Rattle.listing.proofs.Uses.{definition_is}
 
 -- ---- one thing in a list
 
@@ -60,12 +60,12 @@ module _ (l : Layout) (m : List ℕ) (f : Family) (k : Kind) (p : ℕ) (e : kind
   node_alone h i w = same_text (ap rules.num (node_number i) ∙ sym (alone (abs l m) f (num Q (node_in (fam_of f), p)) h)) w
 
   module _ (z : f ≡ Slots) where
-    pub node_pair : {x d : ℕ} {q q₁ q₂ q₃ : Pen ℕ} → x ≡ num Q (kind_of k, p) → d ≡ definition_number (find (abs l m).history.uses (num Q (usg, p)))
+    pub node_pair : {x d : ℕ} {q q₁ q₂ q₃ : Pen ℕ} → SoundStore l m → Live Q (node_in (fam_of f), p) → x ≡ num Q (kind_of k, p) → DefinitionIs l p m d
         → Wrote (rules.num x) q q₁ → Wrote (58 ∷ []) q₁ q₂ → Wrote (rules.digits 10 d []) q₂ q₃
         → Wrote (node_text (abs l m) (fam_of f) (num Q (node_in (fam_of f), p))) q q₃
-    node_pair i j w₁ w₂ w₃ =
+    node_pair {x} {d} S h i D w₁ w₂ w₃ =
         same_text
-        (ap₂ (λ (y z : ℕ). rules.num y ++ (58 ∷ rules.digits 10 z [])) (node_number i ∙ ap (λ (g : Family). num Q (node_in (fam_of g), p)) z) j
+        (ap₂ (λ (y z : ℕ). rules.num y ++ (58 ∷ rules.digits 10 z [])) (node_number i ∙ ap (λ (g : Family). num Q (node_in (fam_of g), p)) z) (definition_is S p (subst (λ (g : Family). Live Q (node_in (fam_of g), p)) z h) D)
         ∙ ap (λ (g : Family). node_text (abs l m) (fam_of g) (num Q (node_in (fam_of g), p))) (sym z))
         (and_then w₁ (and_then w₂ w₃))
 
@@ -156,23 +156,12 @@ cells zero ws i j d h k = absurd (omega (arith, h))
 cells (suc q) ws zero j d h k = get_or-take 3 ws j 0 k ∙ ap (λ (n : ℕ). get_or ws n 0) (let e : j ≡ 3 * 0 + j = omega arith in e)
 cells (suc q) ws (suc i) j d h k = cells q (drop 3 ws) i j d (omega (arith, h)) k ∙ get_or-drop 3 ws (3 * i + j) 0 ∙ ap (λ (n : ℕ). get_or ws n 0) (let e : 3 + (3 * i + j) ≡ 3 * suc i + j = omega arith in e)
 
-pub in_front : {X : Type 0} (n : ℕ) (xs : List X) (i : ℕ) (d : X) → i < length (take n xs) → (get_or (take n xs) i d ≡ get_or xs i d) × (i < length xs)
-in_front zero xs i d h = absurd (omega (arith, h))
-in_front (suc n) [] i d h = absurd (omega (arith, h))
-in_front (suc n) (x ∷ xs) zero d h = (refl, omega arith)
-in_front (suc n) (x ∷ xs) (suc i) d h = let e = in_front n xs i d (omega (arith, h)) in (e.0, omega (arith, e.1))
-
-pub reply_is : (ws : List ℕ) {cs : List (List ℕ)} (n i : ℕ) (d : List ℕ) → cs ≡ first_chunks 3 (length ws / 3) ws → length cs ≡ length ws / 3 → i < length (take n cs)
-    → ◌≡◌ {A = Reply} (record { refusal = get_or (get_or (take n cs) i d) 0 0; a = get_or (get_or (take n cs) i d) 1 0; b = get_or (get_or (take n cs) i d) 2 0 }) (reply_listed ws i)
-reply_is ws {cs} n i d e f h = triple (cell 0 (omega arith) ∙ ap (λ (k : ℕ). get_or ws k 0) (let z : 3 * i + 0 ≡ 3 * i = omega arith in z)) (cell 1 (omega arith)) (cell 2 (omega arith))
+pub reply_is : (ws : List ℕ) {cs : List (List ℕ)} (i : ℕ) (d : List ℕ) → cs ≡ first_chunks 3 (length ws / 3) ws → length cs ≡ length ws / 3 → i < length cs
+    → ◌≡◌ {A = Reply} (record { refusal = get_or (get_or cs i d) 0 0; a = get_or (get_or cs i d) 1 0; b = get_or (get_or cs i d) 2 0 }) (reply_listed ws i)
+reply_is ws {cs} i d e f h = triple (cell 0 (omega arith) ∙ ap (λ (k : ℕ). get_or ws k 0) (let z : 3 * i + 0 ≡ 3 * i = omega arith in z)) (cell 1 (omega arith)) (cell 2 (omega arith))
   where
-    inside : (get_or (take n cs) i d ≡ get_or cs i d) × (i < length cs)
-    inside = in_front n cs i d h
-
-    cell : (j : ℕ) → j < 3 → get_or (get_or (take n cs) i d) j 0 ≡ get_or ws (3 * i + j) 0
-    cell j k =
-        ap (λ (xs : List ℕ). get_or xs j 0) (inside.0 ∙ ap (λ (xs : List (List ℕ)). get_or xs i d) e)
-        ∙ cells (length ws / 3) ws i j d (omega (arith, inside.1, f)) k
+    cell : (j : ℕ) → j < 3 → get_or (get_or cs i d) j 0 ≡ get_or ws (3 * i + j) 0
+    cell j k = ap (λ (xs : List (List ℕ)). get_or (get_or xs i d) j 0) e ∙ cells (length ws / 3) ws i j d (omega (arith, h, f)) k
 
     reply : ℕ → ℕ → ℕ → Reply
     reply x y z = record { refusal = x; a = y; b = z }

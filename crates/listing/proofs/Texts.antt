@@ -1,10 +1,9 @@
 -- The lines that the functions write are the rules': of operations, blocks, regions, values, and the line of counts. Assumes nothing.
 use mathlib.Core.Path.{◌≡◌, refl, sym, ap, ap₂, ◌∙◌}
 use mathlib.Core.List.{List, [], ◌∷◌, ◌++◌, map, append_assoc}
-use Prim.Native.Nat.{ℕ, ◌+◌, ◌-◌, ◌*◌}
-use native.Mathlib.Omega.{arith}
+use Prim.Native.Nat.{ℕ, ◌+◌, ◌-◌}
 use lib.ListN.{length}
-use Rattle.places.specs.Store.{Kind, op, blk, reg, val, usg, Role, operands, successors, block_uses, results, arguments, regions, ops, blocks, Fam, slots, vals, regs, ops_in, blocks_in, Thing, Con, State, Live, up}
+use Rattle.places.specs.Store.{Kind, op, blk, reg, val, usg, Role, operands, successors, value_uses, block_uses, results, arguments, regions, ops, blocks, Fam, slots, use_sets, vals, regs, ops_in, blocks_in, Thing, Con, State, Live, up}
 use Rattle.places.specs.View.{num, rec_of}
 use Rattle.places.specs.Hist.{def_by, op_of, block_of, use_of, hist, orders_of, rule_state, meaning}
 use Rattle.places.specs.Parts.{rows_of}
@@ -18,14 +17,12 @@ use Rattle.rules.specs.Orders.{list_at, or_empty}
 use Rattle.rules.specs.State.{number_at, or_zero}
 use Rattle.rules.specs.Listing as rules
 use Rattle.context.specs.declared.Layout.{Layout}
-use Rattle.context.specs.Memory.{con, state_of, SoundStore}
+use Rattle.context.specs.Memory.{con, ListIs, state_of, SoundStore}
 use Rattle.context.specs.Reading.{list_of}
 use Rattle.context.specs.Performed.{abs}
-use Rattle.context.proofs.Places.{place<}
 use Rattle.listing.specs.declared.Pen.{Pen}
 use Rattle.listing.specs.Writer.{Wrote}
 use Rattle.listing.specs.Lines.{node_text, row_text, numbers_among, home_number, definition_at, uses_among, lines}
-use Rattle.listing.proofs.Rows.{operands_at, successors_at, results_at, arguments_at, value_uses_at, block_uses_at}
 use Rattle.listing.proofs.Uses.{uses_are}
 use Rattle.listing.proofs.Pens.{Pieces, and_then, then_as, ends, same_text}
 
@@ -76,42 +73,47 @@ module _ {l : Layout} {m : List ℕ} (S : SoundStore l m) where
   -- ---- lines
 
   module _ (p : ℕ) where
-    pub op_line : {q₀ q₁ q₂ q₃ q₄ q₅ q₆ q₇ q₈ : Pen ℕ} → Live P (op, p)
+    pub op_line : {i j k : ℕ} {q₀ q₁ q₂ q₃ q₄ q₅ q₆ q₇ q₈ : Pen ℕ} → Live P (op, p)
+        → ListIs l vals (results, (op, p)) i
+        → ListIs l slots (operands, (op, p)) j
+        → ListIs l slots (successors, (op, p)) k
         → Wrote (rules.text "op" ++ rules.num (num P (op, p))) q₀ q₁
         → Wrote (rules.text " block" ++ rules.or_none (home_number P (op, p) ops_in)) q₁ q₂
         → Wrote (rules.text " flags" ++ rules.num (P.tag (op, p))) q₂ q₃
-        → Wrote (rules.text " res" ++ row_text s vals (numbers_among l m vals p)) q₃ q₄
-        → Wrote (rules.text " opd" ++ row_text s slots (numbers_among l m slots (2 * p))) q₄ q₅
-        → Wrote (rules.text " suc" ++ row_text s slots (numbers_among l m slots (2 * p + 1))) q₅ q₆
+        → Wrote (rules.text " res" ++ row_text s vals (numbers_among l m vals i)) q₃ q₄
+        → Wrote (rules.text " opd" ++ row_text s slots (numbers_among l m slots j)) q₄ q₅
+        → Wrote (rules.text " suc" ++ row_text s slots (numbers_among l m slots k)) q₅ q₆
         → Wrote (rules.text " reg" ++ row_text s regs (numbers_among l m regs p)) q₆ q₇
         → Wrote (10 ∷ []) q₇ q₈
         → Wrote (lines s P op (p ∷ [])) q₀ q₈
     unfolding rules.op_lines rules.line_end rec_of rows_of
-    op_line h w₁ w₂ w₃ w₄ w₅ w₆ w₇ w₈ =
+    op_line {i} {j} {k} h a b c w₁ w₂ w₃ w₄ w₅ w₆ w₇ w₈ =
         ends
         (and_then
         (then_as (rules.text " reg") (in_list regs p (op, p) regions refl (λ n. refl))
-        (then_as (rules.text " suc") (in_slots (2 * p + 1) (op, p) successors (successors_at l p))
-        (then_as (rules.text " opd") (in_slots (2 * p) (op, p) operands (operands_at l p))
-        (then_as (rules.text " res") (in_list vals p (op, p) results (results_at l p (place< S (op, p) h)) (λ n. refl))
+        (then_as (rules.text " suc") (in_slots k (op, p) successors c.row)
+        (then_as (rules.text " opd") (in_slots j (op, p) operands b.row)
+        (then_as (rules.text " res") (in_list vals i (op, p) results a.row (λ n. refl))
         (then_as (rules.text " flags") (ap rules.num (flags_are p h))
         (then_as (rules.text " block") refl w₁ w₂) w₃) w₄) w₅) w₆) w₇) w₈)
 
-    pub block_line : {q₀ q₁ q₂ q₃ q₄ q₅ q₆ : Pen ℕ} → Live P (blk, p)
+    pub block_line : {i j : ℕ} {q₀ q₁ q₂ q₃ q₄ q₅ q₆ : Pen ℕ} → Live P (blk, p)
+        → ListIs l vals (arguments, (blk, p)) i
+        → ListIs l use_sets (block_uses, (blk, p)) j
         → Wrote (rules.text "block" ++ rules.num (num P (blk, p))) q₀ q₁
         → Wrote (rules.text " region" ++ rules.or_none (home_number P (blk, p) blocks_in)) q₁ q₂
-        → Wrote (rules.text " arg" ++ row_text s vals (numbers_among l m vals (l.ops + p))) q₂ q₃
+        → Wrote (rules.text " arg" ++ row_text s vals (numbers_among l m vals i)) q₂ q₃
         → Wrote (rules.text " ops" ++ row_text s ops_in (numbers_among l m ops_in p)) q₃ q₄
-        → Wrote (rules.text " pred" ++ rules.nums (uses_among P (definition_at l m (l.values + p)) (P.tab usg).order)) q₄ q₅
+        → Wrote (rules.text " pred" ++ rules.nums (uses_among P (definition_at l m j) (P.tab usg).order)) q₄ q₅
         → Wrote (10 ∷ []) q₅ q₆
         → Wrote (lines s P blk (p ∷ [])) q₀ q₆
     unfolding rules.block_lines rules.line_end rec_of rows_of
-    block_line h w₁ w₂ w₃ w₄ w₅ w₆ =
+    block_line {i} {j} h a b w₁ w₂ w₃ w₄ w₅ w₆ =
         ends
         (and_then
-        (then_as (rules.text " pred") (uses_of_set (l.values + p) (of_block (num P (blk, p))) (ap (λ (c : Con). def_by c.0 (num P c.1)) (block_uses_at l (l.values + p) (omega arith) ∙ ap (λ (n : ℕ). (block_uses, (blk, n))) (omega arith))))
+        (then_as (rules.text " pred") (uses_of_set j (of_block (num P (blk, p))) (ap (λ (c : Con). def_by c.0 (num P c.1)) b.row))
         (then_as (rules.text " ops") (in_list ops_in p (blk, p) ops refl (λ n. refl) ∙ ap rules.nums (ops_are p h))
-        (then_as (rules.text " arg") (in_list vals (l.ops + p) (blk, p) arguments (arguments_at l p) (λ n. refl))
+        (then_as (rules.text " arg") (in_list vals i (blk, p) arguments a.row (λ n. refl))
         (then_as (rules.text " region") refl w₁ w₂) w₃) w₄) w₅) w₆)
 
     pub region_line : {q₀ q₁ q₂ q₃ q₄ : Pen ℕ} → Live P (reg, p)
@@ -127,17 +129,18 @@ module _ {l : Layout} {m : List ℕ} (S : SoundStore l m) where
         (then_as (rules.text " blocks") (in_list blocks_in p (reg, p) blocks refl (λ n. refl))
         (then_as (rules.text " op") (ap rules.or_none (parent_is p h)) w₁ w₂) w₃) w₄)
 
-    pub value_line : {q₀ q₁ q₂ q₃ q₄ : Pen ℕ} → Live P (val, p)
+    pub value_line : {i : ℕ} {q₀ q₁ q₂ q₃ q₄ : Pen ℕ}
+        → ListIs l use_sets (value_uses, (val, p)) i
         → Wrote (rules.text "value" ++ rules.num (num P (val, p))) q₀ q₁
         → Wrote (rules.text " type" ++ rules.num (P.tag (val, p))) q₁ q₂
-        → Wrote (rules.text " uses" ++ rules.nums (uses_among P (definition_at l m p) (P.tab usg).order)) q₂ q₃
+        → Wrote (rules.text " uses" ++ rules.nums (uses_among P (definition_at l m i) (P.tab usg).order)) q₂ q₃
         → Wrote (10 ∷ []) q₃ q₄
         → Wrote (lines s P val (p ∷ [])) q₀ q₄
     unfolding rules.value_lines rules.line_end rec_of
-    value_line h w₁ w₂ w₃ w₄ =
+    value_line {i} a w₁ w₂ w₃ w₄ =
         ends
         (and_then
-        (then_as (rules.text " uses") (uses_of_set p (of_value (num P (val, p))) (ap (λ (c : Con). def_by c.0 (num P c.1)) (value_uses_at l p (place< S (val, p) h))))
+        (then_as (rules.text " uses") (uses_of_set i (of_value (num P (val, p))) (ap (λ (c : Con). def_by c.0 (num P c.1)) a.row))
         (then_as (rules.text " type") refl w₁ w₂) w₃) w₄)
 
   -- the counts

@@ -9,17 +9,17 @@ use Rattle.std.proofs.lemmas.Bool.{eq-eqb, eqb-true, true≢false}
 use Rattle.std.specs.Option.{option_eq}
 use lib.Dec.{eqb}
 use Rattle.std.specs.Prelude as Rust
-use Rattle.std.specs.Prelude.{Some, None, IsSome}
+use Rattle.std.specs.Prelude.{Some, None}
 use native.Mathlib.Decide.{dec_lt}
-use Prim.Native.Nat.{ℕ, ◌-◌, ◌≤◌, ◌<◌}
+use Prim.Native.Nat.{ℕ, ◌-◌}
 use native.Mathlib.Omega.{arith}
 use lib.ListN.{length, get_or}
 use Rattle.seqs.specs.Seqs.{tick}
 use Rattle.seqs.proofs.Base.{tick_yes, tick_no}
-use Rattle.places.specs.Store.{blk, val, usg, Role, operands, successors, value_uses, block_uses, results, arguments, regions, ops, blocks, Fam, use_sets, Con, Con-dec, State, Live, UseHeld, owns}
+use Rattle.places.specs.Store.{usg, Role, operands, successors, value_uses, block_uses, results, arguments, regions, ops, blocks, Fam, use_sets, Con, Con-dec, State, Live, UseHeld, owns}
 use Rattle.places.specs.View.{num, rec_of}
 use Rattle.places.specs.Hist.{def_by, use_of, hist, rule_state, meaning}
-use Rattle.places.specs.Parts.{rows_of, con_of}
+use Rattle.places.specs.Parts.{rows_of}
 use Rattle.places.proofs.Steps.{some_none}
 use Rattle.places.proofs.Bits.{bit, bit_true, bit_false, tabled_view}
 use Rattle.places.proofs.RuleOutside.{IsDef}
@@ -30,14 +30,15 @@ use Rattle.rules.specs.History.{same_definition, uses_of}
 use Rattle.rules.specs.Step.{definition_number}
 use Rattle.rules.specs.Listing as rules
 use Rattle.context.specs.declared.Layout.{Layout}
-use Rattle.context.specs.Memory.{con, given, state_of, SoundStore, HomeIs}
+use Rattle.context.specs.Memory.{con, state_of, SoundStore, HomeIs}
 use Rattle.context.specs.Performed.{abs}
+use Rattle.context.specs.Reading.{DefinitionIs}
 use Rattle.context.proofs.Families.{con_back, con_holder}
+use Rattle.context.proofs.Numbers.{value_set, block_set}
 use Rattle.listing.specs.declared.Pen.{Pen}
 use Rattle.listing.specs.Writer.{Wrote}
 use Rattle.listing.specs.Lines.{definition_at, uses_among, listed}
 use Rattle.listing.proofs.Pens.{Pieces, same_text, ends, nothing}
-use Rattle.listing.proofs.Rows.{value_uses_at, block_uses_at}
 
 number_by : (r : Role) (n : ℕ) → definition_number (some (def_by r n)) ≡ n
 unfolding definition_number
@@ -51,7 +52,7 @@ number_by regions n = refl
 number_by ops n = refl
 number_by blocks n = refl
 
--- ---- the definition of the use u, whose set is stored
+-- ---- the definition of the use u
 
 module _ {l : Layout} {m : List ℕ} (S : SoundStore l m) (u : ℕ) (lu : Live (state_of l m) (usg, u)) where
   abbrev P : State
@@ -63,41 +64,21 @@ module _ {l : Layout} {m : List ℕ} (S : SoundStore l m) (u : ℕ) (lu : Live (
   homeless : HomeIs l use_sets u m None → ⊥
   homeless H = some_none held.in_def H.own
 
-  module _ {h : Rust.Option ℕ} {d : ℕ} (H : HomeIs l use_sets u m h) (e : h ≡ Some d) where
-    pub owned : P.own (usg, u) use_sets ≡ some (con l use_sets d)
-    owned = H.own ∙ ap (λ (o : Rust.Option ℕ). con_of (con l use_sets) (given o)) e
-
-    holder_live : Live P (con l use_sets d).1
-    holder_live = (S.sound.linked.link (usg, u) use_sets (con l use_sets d) owned).home
-
-    definition_is : definition_number (find (abs l m).history.uses (num P (usg, u))) ≡ num P (con l use_sets d).1
-    unfolding abs meaning rule_state
-    definition_is =
-        ap definition_number (use_is S.sound ((P.tab usg).next - length (P.tab usg).order) u lu (num P (usg, u)) (con l use_sets d) refl owned)
-        ∙ number_by (con l use_sets d).0 (num P (con l use_sets d).1)
-
-    -- a value, or a block
-    module _ (v : d < l.values) where
-      pub value_live : Live P (val, d)
-      value_live = subst (λ (c : Con). Live P c.1) (value_uses_at l d v) holder_live
-
-      pub value_is : {x : ℕ} → x ≡ num P (val, d) → x ≡ definition_number (find (abs l m).history.uses (num P (usg, u)))
-      value_is i = i ∙ ap (λ (c : Con). num P c.1) (sym (value_uses_at l d v)) ∙ sym definition_is
-
-    module _ (v : l.values ≤ d) where
-      pub block_live : Live P (blk, d - l.values)
-      block_live = subst (λ (c : Con). Live P c.1) (block_uses_at l d v) holder_live
-
-      pub block_is : {x : ℕ} → x ≡ num P (blk, d - l.values) → x ≡ definition_number (find (abs l m).history.uses (num P (usg, u)))
-      block_is i = i ∙ ap (λ (c : Con). num P c.1) (sym (block_uses_at l d v)) ∙ sym definition_is
+  pub definition_is : {x : ℕ} → DefinitionIs l u m x → x ≡ definition_number (find (abs l m).history.uses (num P (usg, u)))
+  unfolding abs meaning rule_state
+  definition_is D =
+      D.is held.def held.in_def
+      ∙ sym
+      (ap definition_number (use_is S.sound ((P.tab usg).next - length (P.tab usg).order) u lu (num P (usg, u)) held.def refl held.in_def)
+      ∙ number_by held.def.0 (num P held.def.1))
 
 -- ---- the uses of the definition whose set is k
 
 pub is_def : (l : Layout) (k : ℕ) → IsDef (con l use_sets k).0
 is_def l k =
     by_cases (dec_lt k l.values)
-    (λ h. subst (λ (c : Con). IsDef c.0) (sym (value_uses_at l k h)) IsDef.of_val)
-    (λ h. subst (λ (c : Con). IsDef c.0) (sym (block_uses_at l k (omega (arith, h)))) IsDef.of_blk)
+    (λ h. subst (λ (c : Con). IsDef c.0) (sym (value_set l k h)) IsDef.of_val)
+    (λ h. subst (λ (c : Con). IsDef c.0) (sym (block_set l k (omega (arith, h)))) IsDef.of_blk)
 
 module _ {l : Layout} {m : List ℕ} (S : SoundStore l m) (k : ℕ) (lc : Live (state_of l m) (con l use_sets k).1) (u : ℕ) (lu : Live (state_of l m) (usg, u)) where
   abbrev Q : State
@@ -113,7 +94,7 @@ module _ {l : Layout} {m : List ℕ} (S : SoundStore l m) (k : ℕ) (lc : Live (
         use_test S.sound 0 (con l use_sets k) (is_def l k) (con_holder l.values l.ops use_sets k) lc u lu
         ∙ S.sound.linked.held (con l use_sets k).0 (con l use_sets k).1 (usg, u)
         ∙ ap (λ (f : Fam). owns (Q.own (usg, u) f) (con l use_sets k)) (con_back l.values l.ops use_sets k).family
-        ∙ ap (λ (o : Option Con). owns o (con l use_sets k)) (owned S u lu H refl)
+        ∙ ap (λ (o : Option Con). owns o (con l use_sets k)) H.own
 
     use_yes : d ≡ k → is_use ≡ true
     use_yes e = bit_true is_use (omega (arith, test_is, tick_yes (Con-dec (con l use_sets d) (con l use_sets k)) (ap (con l use_sets) e)))

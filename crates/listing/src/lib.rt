@@ -1,24 +1,22 @@
-// The listing of a store and of answers, as text in a lent buffer. What does not fit is left out; the position that a function
-// hands back stops at the buffer's end.
+// The listing of a store and of answers, as text in a lent buffer. What does not fit is left out, and the pen stops at the
+// buffer's end.
 #![tactic(auto)]
 
-ghost use Rattle.std.specs.Prelude.{◌≡◌, [], ◌∷◌, ◌++◌, ◌+◌, ◌*◌, ◌≤◌, ◌<◌, length, get_or};
+ghost use Rattle.std.specs.Prelude.{◌≡◌, [], ◌∷◌, ◌++◌, ◌/◌, ◌≤◌, ◌<◌, length, get_or};
 ghost use Rattle.places.specs.Store.{Live, op, blk, reg, val, usg, use_sets};
 ghost use Rattle.places.specs.View.{num};
 ghost use Rattle.places.specs.Parts.{node_in};
-ghost use Rattle.rules.specs.Table.{find};
-ghost use Rattle.rules.specs.Step.{definition_number};
 ghost use Rattle.rules.specs.Listing as rules;
 ghost use Rattle.context.specs.Kinds.{kind_of, fam_of};
 ghost use Rattle.context.specs.Nest.{inner_fam};
 ghost use Rattle.context.specs.Layout.{nc_of};
 ghost use Rattle.context.specs.Memory.{con, state_of, SoundStore};
 ghost use Rattle.context.specs.Performed.{abs};
-ghost use Rattle.listing.specs.Writer.{Written, Wrote};
+ghost use Rattle.listing.specs.Writer.{Wrote};
 ghost use Rattle.listing.specs.Lines.{node_text, row_text, numbers_among, home_number, definition_at, uses_among, listed, lines, replies_from};
 
 use context::{Family, Kind, Layout};
-use edit::Nested;
+use edit::{Member, Nested, Slot};
 
 // A lent buffer, and where what is written next is put.
 #[derive(Drop)]
@@ -40,7 +38,8 @@ impl<'a, T: Copy> Pen<'a, T> {
 }
 
 impl<'a> Pen<'a, u8> {
-    fn text(&mut self, t: &[u8])
+    // A text.
+    pub fn text(&mut self, t: &[u8])
         ensures { Wrote t.now self.old self.new }
     {
         for b in t {
@@ -79,52 +78,16 @@ impl<'a> Pen<'a, u8> {
     }
 }
 
-// A text.
-pub fn put_text(t: &[u8], out: &mut [u8], at: usize) -> usize
-    ensures { Written t.now out.old at out.new result }
-{
-    let mut pen = Pen { out, at };
-    pen.text(t);
-    pen.at
-}
-
-// The number of the definition of the use at the place `u`.
-fn definition_of(m: &[u32], l: Layout, u: usize) -> u32
-    requires sound_store { SoundStore l m.now }
-    requires live { Live (state_of l m.now) (usg, u) }
-    ensures { result ≡ definition_number (find (abs l m.now).history.uses (num (state_of l m.now) (usg, u))) }
-{
-    let d = context::home_of(m, l, Family::UseSets, u).unwrap();
-    if d < l.values {
-        context::number_of(m, l, Kind::Value, d)
-    } else {
-        context::number_of(m, l, Kind::Block, d - l.values)
-    }
-}
-
-// What stands in the lists of a family.
-fn node_kind(f: Family) -> Kind
-    ensures { kind_of result ≡ node_in (fam_of f) }
-{
-    match f {
-        Family::Slots | Family::UseSets => Kind::Use,
-        Family::Values => Kind::Value,
-        Family::Regions => Kind::Region,
-        Family::Operations => Kind::Operation,
-        Family::Blocks => Kind::Block,
-    }
-}
-
 // The thing at the place `p`, as it stands in a list of the family `f`: a use in an operation's list has its definition behind it.
 fn put_node(m: &[u32], l: Layout, f: Family, p: usize, pen: &mut Pen<u8>)
     requires sound_store { SoundStore l m.now }
     requires live { Live (state_of l m.now) (node_in (fam_of f), p) }
     ensures { Wrote (node_text (abs l m.now) (fam_of f) (num (state_of l m.now) (node_in (fam_of f), p))) pen.old pen.new }
 {
-    pen.number(context::number_of(m, l, node_kind(f), p));
+    pen.number(context::number_of(m, l, Kind::from(f), p));
     if let Family::Slots = f {
         pen.put(b':');
-        pen.digits(definition_of(m, l, p), 10);
+        pen.digits(context::value::definition_number(m, l, p), 10);
     }
 }
 
@@ -135,10 +98,8 @@ fn put_row(m: &[u32], l: Layout, word: &[u8], f: Family, k: usize, pen: &mut Pen
     ensures { Wrote (word.now ++ row_text (abs l m.now) (fam_of f) (numbers_among l m.now (fam_of f) k)) pen.old pen.new }
 {
     pen.text(word);
-    let mut next = context::first_of(m, l, f, k);
-    while let Some(p) = next {
+    for p in context::nodes(m, l, f, k) {
         put_node(m, l, f, p, pen);
-        next = context::next_of(m, l, f, p);
     }
 }
 
@@ -171,6 +132,7 @@ pub fn nth_use(m: &[u32], l: Layout, k: usize, i: usize) -> Option<u32>
     }
 }
 
+// Kept (point 2): tried with the loop of readers::fill_uses in one function over an `FnMut`: nothing is known of the lent pen after its calls.
 // A word, and the uses in the set `k`, in rising number.
 fn put_uses(m: &[u32], l: Layout, word: &[u8], k: usize, pen: &mut Pen<u8>)
     requires sound_store { SoundStore l m.now }
@@ -195,9 +157,30 @@ fn put_op(m: &[u32], l: Layout, p: usize, pen: &mut Pen<u8>)
     pen.field(b"op", context::number_of(m, l, Kind::Operation, p));
     put_home(m, l, b" block", Nested::Block, p, pen);
     pen.field(b" flags", context::operation::flags_of(m, l, p));
-    put_row(m, l, b" res", Family::Values, p, pen);
-    put_row(m, l, b" opd", Family::Slots, 2 * p, pen);
-    put_row(m, l, b" suc", Family::Slots, 2 * p + 1, pen);
+    put_row(
+        m,
+        l,
+        b" res",
+        Family::Values,
+        context::values_of(l, Member::Operation, p),
+        pen,
+    );
+    put_row(
+        m,
+        l,
+        b" opd",
+        Family::Slots,
+        context::slots_of(l, Slot::Operand, p),
+        pen,
+    );
+    put_row(
+        m,
+        l,
+        b" suc",
+        Family::Slots,
+        context::slots_of(l, Slot::Successor, p),
+        pen,
+    );
     put_row(m, l, b" reg", Family::Regions, p, pen);
     pen.put(b'\n');
 }
@@ -210,9 +193,22 @@ fn put_block(m: &[u32], l: Layout, p: usize, pen: &mut Pen<u8>)
 {
     pen.field(b"block", context::number_of(m, l, Kind::Block, p));
     put_home(m, l, b" region", Nested::Region, p, pen);
-    put_row(m, l, b" arg", Family::Values, l.ops + p, pen);
+    put_row(
+        m,
+        l,
+        b" arg",
+        Family::Values,
+        context::values_of(l, Member::Block, p),
+        pen,
+    );
     put_row(m, l, b" ops", Family::Operations, p, pen);
-    put_uses(m, l, b" pred", l.values + p, pen);
+    put_uses(
+        m,
+        l,
+        b" pred",
+        context::use_set_of(l, Slot::Successor, p),
+        pen,
+    );
     pen.put(b'\n');
 }
 
@@ -236,7 +232,13 @@ fn put_value(m: &[u32], l: Layout, p: usize, pen: &mut Pen<u8>)
 {
     pen.field(b"value", context::number_of(m, l, Kind::Value, p));
     pen.field(b" type", context::value::type_of(m, l, p));
-    put_uses(m, l, b" uses", p, pen);
+    put_uses(
+        m,
+        l,
+        b" uses",
+        context::use_set_of(l, Slot::Operand, p),
+        pen,
+    );
     pen.put(b'\n');
 }
 
@@ -288,17 +290,15 @@ fn put_store(m: &[u32], l: Layout, pen: &mut Pen<u8>)
 }
 
 // The listing of a sound store.
-pub fn write_listing(m: &[u32], l: Layout, out: &mut [u8], at: usize) -> usize
+pub fn write_listing(m: &[u32], l: Layout, pen: &mut Pen<u8>)
     requires { SoundStore l m.now }
-    ensures { Written (rules.listing (abs l m.now)) out.old at out.new result }
+    ensures { Wrote (rules.listing (abs l m.now)) pen.old pen.new }
 {
-    let mut pen = Pen { out, at };
-    put_store(m, l, &mut pen);
-    put_things(m, l, Kind::Operation, &mut pen);
-    put_things(m, l, Kind::Block, &mut pen);
-    put_things(m, l, Kind::Region, &mut pen);
-    put_things(m, l, Kind::Value, &mut pen);
-    pen.at
+    put_store(m, l, pen);
+    put_things(m, l, Kind::Operation, pen);
+    put_things(m, l, Kind::Block, pen);
+    put_things(m, l, Kind::Region, pen);
+    put_things(m, l, Kind::Value, pen);
 }
 
 // The line of the record `n`, whose answer has these three numbers.
@@ -316,14 +316,12 @@ fn put_answer(n: u32, refusal: u32, x: u32, y: u32, pen: &mut Pen<u8>)
     pen.put(b'\n');
 }
 
-// The lines of `n` answers, three words each.
-pub fn write_answers(answers: &[u32], n: usize, out: &mut [u8], at: usize) -> usize
-    requires { (3 * n ≤ length answers.now) × (n ≤ 4294967295) }
-    ensures { Written (rules.edit_lines 0 (replies_from answers.now 0 n)) out.old at out.new result }
+// The lines of answers, three words each.
+pub fn write_answers(answers: &[u32], pen: &mut Pen<u8>)
+    requires { length answers.now / 3 ≤ 4294967295 }
+    ensures { Wrote (rules.edit_lines 0 (replies_from answers.now 0 (length answers.now / 3))) pen.old pen.new }
 {
-    let mut pen = Pen { out, at };
-    for (i, &[refusal, x, y]) in answers.as_chunks::<3>().0[..n].iter().enumerate() {
-        put_answer(i as u32, refusal, x, y, &mut pen);
+    for (i, &[refusal, x, y]) in answers.as_chunks::<3>().0.iter().enumerate() {
+        put_answer(i as u32, refusal, x, y, pen);
     }
-    pen.at
 }

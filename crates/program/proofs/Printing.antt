@@ -5,8 +5,9 @@ use mathlib.Core.List.{List, [], ◌∷◌, ◌++◌}
 use Prim.Native.Nat.{ℕ, ◌+◌, ◌-◌, ◌*◌, ◌/◌, ◌≤◌, ◌<◌}
 use native.Mathlib.Decide.{dec_lt}
 use native.Mathlib.Omega.{arith}
-use lib.ListN.{length, drop, length-append, length-drop}
+use lib.ListN.{length, take, drop, length-append, length-drop}
 use borrow.Author.Tests.{lt-ltb, le-ltb}
+use Rattle.std.proofs.Math.Seq.{take-append_seam}
 use Rattle.std.specs.Prelude.{Result, Ok, Err, IsOk}
 use Rattle.edit.specs.Answer.{Reply}
 use Rattle.edit.specs.Kinds.{code_of}
@@ -23,9 +24,10 @@ use Rattle.context.specs.Performed.{abs}
 use Rattle.context.proofs.Checking.{headed}
 use Rattle.script.specs.declared.Ran.{Ran}
 use Rattle.script.specs.Calls.{flat, RanOn, Scripted}
-use Rattle.listing.specs.Writer.{Written}
+use Rattle.listing.specs.declared.Pen.{Pen}
+use Rattle.listing.specs.Writer.{Wrote}
 use Rattle.listing.specs.Lines.{replies_from}
-use Rattle.listing.proofs.Writing.{and_then, same_text}
+use Rattle.listing.proofs.Pens.{and_then, same_text}
 use Rattle.program.specs.Program.{capacities, Begun}
 use Rattle.program.proofs.Replies.{read_back}
 
@@ -73,25 +75,31 @@ module _ {l : Layout} {m bytes m' s s' out out' : List ℕ} {r : Ran} (B : Begun
   words : out' ≡ flat R.answers ++ drop (3 * r.count) out
   words = ran.answers ∙ ap (λ (q : rules-script.Ran). flat q.answers ++ drop (3 * r.count) out) the_run
 
-  pub room : length out' ≡ length out → (3 * r.count ≤ length out') × (r.count ≤ 4294967295)
-  room k =
+  front : take (3 * r.count) out' ≡ flat R.answers
+  front = ap (take (3 * r.count)) words ∙ ap (λ (n : ℕ). take n (flat R.answers ++ drop (3 * r.count) out)) (let e : 3 * r.count ≡ length (flat R.answers) = omega (arith, long R.answers, counted) in e) ∙ take-append_seam (flat R.answers) (drop (3 * r.count) out)
+
+  third : length (take (3 * r.count) out') / 3 ≡ length R.answers
+  third = omega (arith, ap length front, long R.answers)
+
+  pub few : length out' ≡ length out → (3 * r.count ≤ length out') × (length (take (3 * r.count) out') / 3 ≤ 4294967295)
+  few k =
       let w : length out' ≡ length (flat R.answers) + (length out - 3 * r.count) = ap length words ∙ length-append (flat R.answers) (drop (3 * r.count) out) ∙ ap (λ (n : ℕ). length (flat R.answers) + n) (length-drop (3 * r.count) out) in
       let v : length (flat R.answers) ≡ 3 * length R.answers = long R.answers in
-      (omega (arith, w, v, counted, k, ho), omega (arith, w, v, counted, k, ho))
+      (omega (arith, w, v, counted, k, ho), omega (arith, w, v, counted, k, ho, third))
 
-  replies : replies_from out' 0 r.count ≡ R.answers
-  replies = ap₂ (λ t n. replies_from t 0 n) words counted ∙ read_back flat laid R.answers (drop (3 * r.count) out)
+  replies : replies_from (take (3 * r.count) out') 0 (length (take (3 * r.count) out') / 3) ≡ R.answers
+  replies = ap₂ (λ t n. replies_from t 0 n) front third ∙ read_back flat laid R.answers
 
-  pub printed_is : {o o₁ o₂ : List ℕ} {a b : ℕ} → Written (rules.edit_lines 0 (replies_from out' 0 r.count)) o 0 o₁ a → Written (rules.listing (abs l m')) o₁ a o₂ b → Written (rules.printed bytes) o 0 o₂ b
+  pub printed_is : {p q s : Pen ℕ} → Wrote (rules.edit_lines 0 (replies_from (take (3 * r.count) out') 0 (length (take (3 * r.count) out') / 3))) p q → Wrote (rules.listing (abs l m')) q s → Wrote (rules.printed bytes) p s
   unfolding rules.printed
   printed_is v w = and_then (same_text (ap (rules.edit_lines 0) replies) v) (same_text (ap rules.listing (ran.state ∙ ap (λ (q : rules-script.Ran). q.state) the_run)) w)
 
 -- any script
-module _ (bytes : List ℕ) {o o₁ : List ℕ} {a : ℕ} where
-  pub too_long : 16384 < length bytes → Written (rules.text "script too long\n") o 0 o₁ a → Written (rules.output bytes) o 0 o₁ a
+module _ (bytes : List ℕ) {p q : Pen ℕ} where
+  pub too_long : 16384 < length bytes → Wrote (rules.text "script too long\n") p q → Wrote (rules.output bytes) p q
   unfolding rules.output
   too_long h w = same_text (ap (λ (t : Bool). elim t [ true ↦ rules.text "script too long\n" | false ↦ rules.printed bytes ]) (sym (lt-ltb 16384 (length bytes) h))) w
 
-  pub not_long : length bytes ≤ 16384 → Written (rules.printed bytes) o 0 o₁ a → Written (rules.output bytes) o 0 o₁ a
+  pub not_long : length bytes ≤ 16384 → Wrote (rules.printed bytes) p q → Wrote (rules.output bytes) p q
   unfolding rules.output
   not_long h w = same_text (ap (λ (t : Bool). elim t [ true ↦ rules.text "script too long\n" | false ↦ rules.printed bytes ]) (sym (le-ltb 16384 (length bytes) h))) w

@@ -1,6 +1,6 @@
 -- The answers that stand in words, three for each, are read back. Assumes nothing.
 use mathlib.Core.Path.{◌≡◌, refl, ap, ap₂, ◌∙◌}
-use mathlib.Core.List.{List, [], ◌∷◌, ◌++◌}
+use mathlib.Core.List.{List, [], ◌∷◌}
 use native.Mathlib.Omega.{arith}
 use Prim.Native.Nat.{ℕ, zero, suc, ◌+◌, ◌*◌}
 use lib.ListN.{length, get_or}
@@ -20,8 +20,8 @@ module _ (a b c : ℕ) (ws : List ℕ) where
 
 -- flat lays answers out in words
 module _ (flat : List Reply → List ℕ) (laid : (r : Reply) (rs : List Reply) → flat (r ∷ rs) ≡ r.refusal ∷ r.a ∷ r.b ∷ flat rs) where
-  pub read_back : (rs : List Reply) (rest : List ℕ) → replies_from (flat rs ++ rest) 0 (length rs) ≡ rs
-  read_back [] rest = refl
-  read_back (r ∷ rs) rest =
-      ap (λ (t : List ℕ). replies_from (t ++ rest) 0 (suc (length rs))) (laid r rs)
-      ∙ ap (λ (t : List Reply). r ∷ t) (shifted r.refusal r.a r.b (flat rs ++ rest) 0 (length rs) ∙ read_back rs rest)
+  pub read_back : (rs : List Reply) → replies_from (flat rs) 0 (length rs) ≡ rs
+  read_back [] = refl
+  read_back (r ∷ rs) =
+      ap (λ (t : List ℕ). replies_from t 0 (suc (length rs))) (laid r rs)
+      ∙ ap (λ (t : List Reply). r ∷ t) (shifted r.refusal r.a r.b (flat rs) 0 (length rs) ∙ read_back rs)

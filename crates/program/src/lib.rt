@@ -3,10 +3,11 @@
 
 ghost use Rattle.std.specs.Prelude.{◌≡◌, length};
 ghost use Rattle.rules.specs.Listing.{printed, output};
-ghost use Rattle.listing.specs.Writer.{Written};
+ghost use Rattle.listing.specs.Writer.{Written, Wrote};
 ghost use Rattle.program.specs.Program.{Begun};
 
 use context::Layout;
+use listing::Pen;
 
 // How many bytes a script may have.
 pub const MOST_SCRIPT: usize = 16384;
@@ -42,27 +43,30 @@ fn begin(store: &mut [u32]) -> Layout
     l
 }
 
-// What the program prints for a script that is not too long, into a lent buffer.
-fn run(script: &[u8], out: &mut [u8]) -> usize
-    ensures { Written (printed script.now) out.old 0 out.new result }
+// What the program prints for a script that is not too long.
+fn run(script: &[u8], pen: &mut Pen<u8>)
+    ensures { Wrote (printed script.now) pen.old pen.new }
 {
     let mut store = [0u32; WORDS];
     let l = begin(&mut store);
     let mut scratch = [0u32; OPERATIONS];
     let mut answers = [0u32; ANSWERS];
     let ran = script::script(&mut store, &mut scratch, script, &mut answers);
-    let a = listing::write_answers(&answers, ran.count, out, 0);
-    listing::write_listing(&store, l, out, a)
+    listing::write_answers(&answers[..3 * ran.count], pen);
+    listing::write_listing(&store, l, pen);
 }
 
-// What it prints for any script: over 16,384 bytes nothing is run.
+// What it prints for any script, into a lent buffer: over 16,384 bytes nothing is run.
 pub fn print(script: &[u8], out: &mut [u8]) -> usize
     ensures { Written (output script.now) out.old 0 out.new result }
 {
+    let mut pen = Pen { out, at: 0 };
     if MOST_SCRIPT < script.len() {
-        return listing::put_text(b"script too long\n", out, 0);
+        pen.text(b"script too long\n");
+    } else {
+        run(script, &mut pen);
     }
-    run(script, out)
+    pen.at
 }
 
 // Reads a script from standard input and prints what `print` says: the buffer has room for the output of every script.

@@ -11,25 +11,25 @@ use lib.Dec.{eqb, leb}
 use lib.ListN.{length, drop}
 use borrow.Author.Tests.{le-leb, lt-leb}
 use Rattle.std.specs.Prelude.{Option, Some, None, Result, Ok, Err}
-use Rattle.places.specs.Store.{blk, val, usg, block_uses, use_sets, Con, State, Live}
+use Rattle.places.specs.Store.{Kind, blk, val, usg, use_sets, Con, State, Live}
 use Rattle.places.specs.View.{num, view}
 use Rattle.places.specs.Hist.{def_by, hist, rule_state, meaning}
 use Rattle.places.specs.Alias.{RState}
+use Rattle.places.specs.Roles.{def_kind, def_role}
 use Rattle.places.proofs.RuleNames as names
-use Rattle.edit.specs.Record.{Definition, of_value, of_block}
+use Rattle.edit.specs.Record.{Definition, of_value, of_block, Slot, operand, successor}
 use Rattle.edit.specs.declared.Refusal.{Refusal}
 use Rattle.edit.specs.declared.Refusal.TheVariants.{NoRoom}
 use Rattle.edit.specs.Kinds.{number_of}
 use Rattle.rules.specs.History.{live_definition, uses_of}
 use Rattle.context.specs.declared.Layout.{Layout}
-use Rattle.context.specs.Memory.{con, state_of, SoundStore, LengthIs, LooksUp}
+use Rattle.context.specs.Memory.{con, ListIs, state_of, SoundStore, LengthIs, LooksUp}
 use Rattle.context.specs.Performed.{abs}
 use Rattle.context.proofs.Families.{con_holder}
-use Rattle.context.proofs.Places.{place<}
+use Rattle.context.proofs.Numbers.{value_set, block_set}
 use Rattle.listing.specs.declared.Pen.{Pen}
 use Rattle.listing.specs.Writer.{Written, Wrote}
 use Rattle.listing.specs.Lines.{definition_at, uses_among, listed}
-use Rattle.listing.proofs.Rows.{value_uses_at, block_uses_at}
 use Rattle.listing.proofs.Uses.{is_def, uses_are}
 use Rattle.listing.proofs.Writing.{whole, reached}
 use Rattle.listing.proofs.Pens.{nothing, same_text}
@@ -89,21 +89,24 @@ module _ {l : Layout} {m : List ℕ} (S : SoundStore l m) where
   abbrev ended : ℕ
   ended = (P.tab usg).next - length (P.tab usg).order
 
-  -- the definition of a place
-  pub value_at : (p n : ℕ) → Live P (val, p) → num P (val, p) ≡ n → definition_at l m p ≡ of_value n
-  value_at p n h e = ap (λ (c : Con). def_by c.0 (num P c.1)) (value_uses_at l p (place< S (val, p) h)) ∙ ap of_value e
-
-  pub block_at : (p n : ℕ) → num P (blk, p) ≡ n → definition_at l m (l.values + p) ≡ of_block n
-  block_at p n e = ap (λ (c : Con). def_by c.0 (num P c.1)) (block_uses_at l (l.values + p) (omega arith) ∙ ap (λ (j : ℕ). (block_uses, (blk, j))) (let z : l.values + p - l.values ≡ p = omega arith in z)) ∙ ap of_block e
-
   -- no such definition
-  pub no_value : (n : ℕ) (out : List ℕ) {r : Refusal} → LooksUp P val n (Err r) → Told (abs l m) (of_value n) out out (Err r)
+  dead_at : (s : Slot) (n : ℕ) (out : List ℕ) {r : Refusal} → LooksUp P (def_kind s) n (Err r) → Told (abs l m) (def_by (def_role s) n) out out (Err r)
   unfolding abs meaning rule_state live_definition
-  no_value n out h = refused (abs l m) (of_value n) out 10 h.1 (dead (abs l m) (of_value n) out (names.value_dead S.sound ended n h.0)) refl
+  dead_at operand n out h = refused (abs l m) (of_value n) out 10 h.1 (dead (abs l m) (of_value n) out (names.value_dead S.sound ended n h.0)) refl
+  dead_at successor n out h = refused (abs l m) (of_block n) out 8 h.1 (dead (abs l m) (of_block n) out (names.block_dead S.sound ended n h.0)) refl
 
-  pub no_block : (n : ℕ) (out : List ℕ) {r : Refusal} → LooksUp P blk n (Err r) → Told (abs l m) (of_block n) out out (Err r)
-  unfolding abs meaning rule_state live_definition
-  no_block n out h = refused (abs l m) (of_block n) out 8 h.1 (dead (abs l m) (of_block n) out (names.block_dead S.sound ended n h.0)) refl
+  -- what a slot uses was looked up
+  module _ (s : Slot) {k : Kind} (e : k ≡ def_kind s) (n : ℕ) where
+    pub not_there : (out : List ℕ) {r : Refusal} → LooksUp P k n (Err r) → Told (abs l m) (def_by (def_role s) n) out out (Err r)
+    not_there out {r} h = dead_at s n out (subst (λ (j : Kind). LooksUp P j n (Err r)) e h)
+
+    module _ (p : ℕ) (h : LooksUp P k n (Ok p)) where
+      pub found_live : Live P (def_kind s, p)
+      found_live = subst (λ (j : Kind). Live P (j, p)) e h.0
+
+      -- its set of uses
+      pub set_is : {i : ℕ} → ListIs l use_sets (def_role s, (def_kind s, p)) i → definition_at l m i ≡ def_by (def_role s) n
+      set_is L = ap (λ (c : Con). def_by c.0 (num P c.1)) L.row ∙ ap (λ (j : Kind). def_by (def_role s) (num P (j, p))) (sym e) ∙ ap (def_by (def_role s)) h.1
 
   module _ (k : ℕ) (lc : Live P (con l use_sets k).1) where
     abbrev d : Definition
@@ -113,8 +116,8 @@ module _ {l : Layout} {m : List ℕ} (S : SoundStore l m) where
     unfolding abs meaning rule_state live_definition
     is_live =
         by_cases (dec_lt k l.values)
-        (λ h. subst (λ (c : Con). live_definition (hist ended (view P)) (def_by c.0 (num P c.1)) ≡ true) (sym (value_uses_at l k h)) (names.value_live S.sound ended k (num P (val, k)) (subst (λ (c : Con). Live P c.1) (value_uses_at l k h) lc) refl))
-        (λ h. let g : l.values ≤ k = omega (arith, h) in subst (λ (c : Con). live_definition (hist ended (view P)) (def_by c.0 (num P c.1)) ≡ true) (sym (block_uses_at l k g)) (names.block_live S.sound ended (k - l.values) (num P (blk, k - l.values)) (subst (λ (c : Con). Live P c.1) (block_uses_at l k g) lc) refl))
+        (λ h. subst (λ (c : Con). live_definition (hist ended (view P)) (def_by c.0 (num P c.1)) ≡ true) (sym (value_set l k h)) (names.value_live S.sound ended k (num P (val, k)) (subst (λ (c : Con). Live P c.1) (value_set l k h) lc) refl))
+        (λ h. let g : l.values ≤ k = omega (arith, h) in subst (λ (c : Con). live_definition (hist ended (view P)) (def_by c.0 (num P c.1)) ≡ true) (sym (block_set l k g)) (names.block_live S.sound ended (k - l.values) (num P (blk, k - l.values)) (subst (λ (c : Con). Live P c.1) (block_set l k g) lc) refl))
 
     long : (n : ℕ) → LengthIs l use_sets k m n → n ≡ length (uses_of (abs l m).history d)
     unfolding abs meaning rule_state

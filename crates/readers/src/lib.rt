@@ -2,7 +2,10 @@
 #![tactic(auto)]
 
 ghost use Rattle.std.specs.Prelude.{◌≡◌, ◌<◌};
+ghost use Rattle.edit.specs.Kinds.{slot_of};
 ghost use Rattle.places.specs.Store.{Live, usg, use_sets};
+ghost use Rattle.places.specs.Hist.{def_by};
+ghost use Rattle.places.specs.Roles.{def_role};
 ghost use Rattle.context.specs.Layout.{nc_of};
 ghost use Rattle.context.specs.Memory.{con, state_of, SoundStore};
 ghost use Rattle.context.specs.Performed.{abs};
@@ -11,7 +14,7 @@ ghost use Rattle.listing.specs.Lines.{definition_at, uses_among};
 ghost use Rattle.readers.specs.UsesOf.{definition_by, Told, ToldOf, Fronted};
 
 use context::{Family, Kind, Layout};
-use edit::Refusal;
+use edit::{Refusal, Slot};
 use listing::Pen;
 
 // What a reader names, by its number.
@@ -21,7 +24,19 @@ pub enum Definition {
     Block(u32),
 }
 
-// Kept (point 2): shares `nth_use` with the listing; a closure for what is written needs a longer contract than this loop.
+impl Definition {
+    // The slot that uses it, and its number.
+    fn slot_and_number(self) -> (Slot, u32)
+        ensures { definition_by self ≡ def_by (def_role (slot_of result.0)) result.1 }
+    {
+        match self {
+            Definition::Value(number) => (Slot::Operand, number),
+            Definition::Block(number) => (Slot::Successor, number),
+        }
+    }
+}
+
+// Kept (point 2): tried with the loop of listing::put_uses in one function over an `FnMut`: nothing is known of the lent pen after its calls.
 // The uses in the set `k`: the live uses are gone through in rising number.
 fn fill_uses(m: &[u32], l: Layout, k: usize, out: &mut [u32]) -> usize
     requires sound_store { SoundStore l m.now }
@@ -61,16 +76,9 @@ fn sound_uses(
     requires { SoundStore l m.now }
     ensures { Told (abs l m.now) (definition_by definition) out.old out.new result }
 {
-    match definition {
-        Definition::Value(number) => {
-            let p = context::look_up(m, l, Kind::Value, number)?;
-            uses_in(m, l, p, out)
-        }
-        Definition::Block(number) => {
-            let p = context::look_up(m, l, Kind::Block, number)?;
-            uses_in(m, l, l.values + p, out)
-        }
-    }
+    let (slot, number) = definition.slot_and_number();
+    let p = context::look_up(m, l, context::definition_kind(slot), number)?;
+    uses_in(m, l, context::use_set_of(l, slot, p), out)
 }
 
 // The uses of a definition: their numbers, rising, in front of `out`, whose rest is kept; the result is how many.

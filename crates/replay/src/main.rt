@@ -2,21 +2,19 @@
 // is (differential/README.md has the form). Prints how many entries there are and how many differ.
 #![tactic(auto)]
 
+ghost use Rattle.std.specs.Prelude.{◌≡◌};
 ghost use Rattle.seqs.specs.Seqs.{Says};
-ghost use Rattle.replay.specs.Same.{Starts};
+ghost use Rattle.rules.specs.Listing.{output};
 
-// Whether `a` starts with `b`.
-fn starts_with(a: &[u8], b: &[u8]) -> bool
-    ensures { Says result (Starts a.now b.now) }
-{
-    a.starts_with(b)
-}
+use program::{MOST_OUTPUT, MOST_READ};
 
 // Whether the program prints just this for the script.
-fn prints(script: &[u8], want: &[u8]) -> bool {
-    let mut out = [0u8; 262144];
+fn prints(script: &[u8], want: &[u8]) -> bool
+    ensures { Says result (output script.now ≡ want.now) }
+{
+    let mut out = [0u8; MOST_OUTPUT];
     let n = program::print(script, &mut out);
-    starts_with(&out, want) && n == want.len()
+    &out[..n] == want
 }
 
 // The next `n` bytes of standard input, in front of `buf`; none where there are not so many, or no room for them.
@@ -32,34 +30,27 @@ fn read_front(buf: &mut [u8], n: usize) -> Option<&[u8]> {
     }
 }
 
-// The number that the next two bytes have, the lowest first.
-fn next_short() -> Option<usize> {
+// The number that the next `n` bytes have, at most four, the lowest first.
+fn next_number(n: usize) -> Option<usize> {
     let mut b = [0u8; 4];
-    read_front(&mut b[..2], 2)?;
-    Some(edit::number(&b, 0) as usize)
-}
-
-// The number that the next four bytes have, likewise.
-fn next_long() -> Option<usize> {
-    let mut b = [0u8; 4];
-    read_front(&mut b, 4)?;
-    Some(edit::number(&b, 0) as usize)
+    read_front(&mut b, n)?;
+    Some(u32::from_le_bytes(b) as usize)
 }
 
 // Whether the program prints for the script, of `n` bytes, what follows it; none where either is longer than it may be, or the
 // input ends before it.
 fn compare(n: usize) -> Option<bool> {
-    let mut buf = [0u8; 16385];
+    let mut buf = [0u8; MOST_READ];
     let script = read_front(&mut buf, n)?;
-    let m = next_long()?;
-    let mut out = [0u8; 262144];
+    let m = next_number(4)?;
+    let mut out = [0u8; MOST_OUTPUT];
     let want = read_front(&mut out, m)?;
     Some(prints(script, want))
 }
 
 // Whether the next entry, a script behind its length, and what must be printed behind its own, is as it must be; none at the end.
 fn replay_entry() -> Option<bool> {
-    let n = next_short()?;
+    let n = next_number(2)?;
     Some(compare(n).unwrap_or(false))
 }
 

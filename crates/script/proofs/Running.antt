@@ -5,14 +5,15 @@ use Prim.Native.Nat.{ℕ, zero, suc, ◌+◌, ◌-◌, ◌*◌, ◌/◌, ◌≤�
 use native.Mathlib.Omega.{arith}
 use native.Mathlib.Nat.{sub-zero}
 use lib.ListN.{length, drop, length-append, length-drop}
-use Rattle.std.specs.Prelude.{Result, Some, None, Ok, Err}
-use Rattle.edit.specs.Kinds.{number_of, code_of}
+use Rattle.std.specs.Prelude.{Option, Result, Some, None, Ok, Err}
+use Rattle.std.specs.Result.{result_unwrap_or}
+use Rattle.edit.specs.Kinds.{code_of}
 use Rattle.edit.specs.Record.{Cut, nothing, broken, whole, cut, Read, read}
 use Rattle.edit.specs.Taken.{record_kind, fields_of, record_at, cut_of, NextCut, edit_by, read_of, Taken}
 use Rattle.edit.specs.Answer.{Reply, refuse, Answer, numbers_of, Put}
 use Rattle.edit.specs.declared.Kind.{Kind}
 use Rattle.edit.specs.declared.Refusal.{Refusal}
-use Rattle.edit.specs.declared.Refusal.TheVariants.{NoRoom}
+use Rattle.edit.specs.declared.Refusal.TheVariants.{Malformed, NoRoom}
 use Rattle.rules.specs.Step.{obey}
 use Rattle.rules.proofs.Closure.{accepted_reply}
 use Rattle.rules.specs.Script.{ended_with, after_reply, turn, run_by, run}
@@ -72,6 +73,11 @@ over_none (x ∷ bytes) room h = absurd (omega arith)
 
 -- ---- one record of a script
 
+-- a whole record was found
+pub found : {bytes : List ℕ} {at end : ℕ} (r : Result (Option ℕ) Refusal) → NextCut bytes at r → result_unwrap_or r None ≡ Some end → NextCut bytes at (Ok (Some end))
+found {bytes} {at} (Ok o) N e = subst (λ (o : Option ℕ). NextCut bytes at (Ok o)) e N
+found (Err x) N e = let z : ◌≡◌ {A = ℕ} 0 1 = cc in absurd (omega arith)
+
 module _ (l : Layout) (bytes : List ℕ) (at count : ℕ) (m s out : List ℕ) where
   pub step_full : at < length bytes → length out / 3 ≤ count → Stepped l bytes at count m m s s out out (Err NoRoom)
   step_full h r = record {
@@ -80,11 +86,11 @@ module _ (l : Layout) (bytes : List ℕ) (at count : ℕ) (m s out : List ℕ) w
   }
 
   -- before the end of the bytes, a search finds a record, or a broken one
-  pub step_left : at < length bytes → NextCut bytes at (Ok None) → ⊥
+  step_left : at < length bytes → NextCut bytes at (Ok None) → ⊥
   unfolding cut_of
   step_left h N = some_left (drop at bytes) (omega (arith, length-drop at bytes)) N.same
 
-  pub step_broken : {e : Refusal} → NextCut bytes at (Err e) → count < length out / 3 → {out' : List ℕ} → Put out out' count (numbers_of (Err e)) → Stepped l bytes at count m m s s out out' (Ok None)
+  step_broken : {e : Refusal} → NextCut bytes at (Err e) → count < length out / 3 → {out' : List ℕ} → Put out out' count (numbers_of (Err Malformed)) → Stepped l bytes at count m m s s out out' (Ok None)
   unfolding cut_of numbers_of
   step_broken {e} N h {out'} P = record {
     step = record {
@@ -92,10 +98,16 @@ module _ (l : Layout) (bytes : List ℕ) (at count : ℕ) (m s out : List ℕ) w
       over = subst (λ (c : Cut). Over c (length out / 3 - count)) (sym N.same) tt;
       room = h;
       kept = refl;
-      answers = subst (λ (r : Refusal). Put out out' count (refuse (number_of r))) (N.broken e refl) P;
+      answers = P;
     };
     scratch = refl;
   }
+
+  -- none was found
+  pub step_last : at < length bytes → (r : Result (Option ℕ) Refusal) → NextCut bytes at r → result_unwrap_or r None ≡ None → count < length out / 3 → {out' : List ℕ} → Put out out' count (numbers_of (Err Malformed)) → Stepped l bytes at count m m s s out out' (Ok None)
+  step_last h (Ok None) N e k P = absurd (step_left h N)
+  step_last h (Ok (Some end)) N e k P = let z : ◌≡◌ {A = ℕ} 0 1 = cc in absurd (omega arith)
+  step_last h (Err x) N e k P = step_broken N k P
 
   pub step_whole : {end : ℕ} → NextCut bytes at (Ok (Some end)) → count < length out / 3 → {m' s' out' : List ℕ} {a : Answer} → Obeyed l (read (record_kind (record_at bytes at end)) (fields_of (record_at bytes at end))) m m' s s' a
       → Put out out' count (numbers_of a) → Stepped l bytes at count m m' s s' out out' (Ok (Some end))

@@ -49,18 +49,13 @@ fn record_step(
     if answers.len() / 3 <= count {
         return Err(Refusal::NoRoom);
     }
-    match edit::next_record(script, at) {
-        Ok(Some(end)) => {
-            let a = obey(store, scratch, l, &script[at..end]);
-            edit::put_answer(answers, count, a);
-            Ok(Some(end))
-        }
-        Ok(None) => unreachable!(),
-        Err(refusal) => {
-            edit::put_answer(answers, count, Err(refusal));
-            Ok(None)
-        }
-    }
+    let Some(end) = edit::next_record(script, at).unwrap_or(None) else {
+        edit::put_answer(answers, count, Err(Refusal::Malformed));
+        return Ok(None);
+    };
+    let a = obey(store, scratch, l, &script[at..end]);
+    edit::put_answer(answers, count, a);
+    Ok(Some(end))
 }
 
 // The records of a script, one after another, on a sound store.

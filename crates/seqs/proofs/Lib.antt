@@ -2,3 +2,5 @@ pub mod Base
 pub mod Sums
 pub mod Says
 pub mod Parts
+pub mod Cells
+pub mod Each

@@ -1,3 +1,4 @@
 pub mod Seqs
 pub mod Split
 pub mod Entries
+pub mod Cells

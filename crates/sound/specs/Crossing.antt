@@ -5,8 +5,8 @@ use Rattle.places.specs.Store.{Kind, op, blk, reg, val, usg, Fam}
 use Rattle.context.specs.declared.Layout.{Layout}
 use Rattle.context.specs.Layout.{cap_of, nc_of, nn_of, kind_part, fam_part}
 use Rattle.context.specs.Memory.{part}
-use Rattle.sound_parts.specs.declared.Births.{Births}
-use Rattle.sound_parts.specs.declared.Rows.{Rows}
+use Rattle.sound_parts.specs.declared.parts.Births.{Births}
+use Rattle.sound_parts.specs.declared.parts.Rows.{Rows}
 use Rattle.sound_parts.specs.Tests.{UsesOk, ValsOk, NestOk}
 
 -- the order and the stamps of a table

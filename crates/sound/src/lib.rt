@@ -18,7 +18,7 @@ fn births<'a>(m: &'a [u32], l: Layout, k: Kind) -> Births<'a>
     ensures { BirthsOf l (kind_of k) m.now result }
 {
     let t = context::table_span(l, k);
-    let end = t.at + (2 + t.places + t.places);
+    let end = t.at + arena::front_len(t.places);
     Births {
         words: &m[t.at..end],
         places: t.places,

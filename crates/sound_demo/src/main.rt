@@ -45,12 +45,15 @@ const PAST: usize = TYPES + V;
 
 const WORDS: usize = PAST + 4;
 
+// The highest bit of a word.
+const TOP_BIT: u32 = 1 << 31;
+
 // One record as a single edit, put to the store.
 fn put(rt: &impl Print, store: &mut [u32], rec: &[u8]) -> io::Result<()> {
     let mut scratch = [0u32; 8];
     match script::edit(store, &mut scratch, rec) {
         Ok((x, y)) => println!(rt; "ok {x} {y}"),
-        Err(refusal) => println!(rt; "no {}", refusal.number()),
+        Err(refusal) => println!(rt; "no {}", u32::from(refusal)),
     }
 }
 
@@ -165,7 +168,7 @@ fn damaged(m: &mut [u32], i: usize, way: Damage) -> Option<bool> {
         Damage::Zero => replace(m, i, 0),
         Damage::Up => replace(m, i, w.wrapping_add(1)),
         Damage::Down => replace(m, i, w.wrapping_sub(1)),
-        Damage::TopBit => replace(m, i, w ^ 2147483648),
+        Damage::TopBit => replace(m, i, w ^ TOP_BIT),
         Damage::Ones => replace(m, i, u32::MAX),
         Damage::Swap => swap(m, i),
     }

@@ -9,9 +9,11 @@ use lib.ListN.{length, get_or}
 use lib.Seq.{ext_get_or}
 use Rattle.std.specs.Prelude.{Option}
 use Rattle.places.specs.Store.{Fam}
-use Rattle.linked_list.specs.Links.{at, decoded, Links}
+use Rattle.seqs.specs.Cells.{decoded}
+use Rattle.linked_list.specs.Links.{at, Links}
 use Rattle.linked_list.proofs.Laws.{at_end}
-use Rattle.linked_list.proofs.Getters.{cells, stored, tail_cell}
+use Rattle.seqs.proofs.Cells.{stored}
+use Rattle.linked_list.proofs.Getters.{cells, tail_cell}
 use Rattle.sound_parts.specs.Cross.{conts, Holder, Crossed}
 use Rattle.sound_parts.specs.Memory.{Mem, row_at, cells_of, Formed}
 

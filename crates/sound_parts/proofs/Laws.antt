@@ -2,19 +2,18 @@
 use mathlib.Core.Path.{◌≡◌, refl, sym, ap, ◌∙◌, subst}
 use mathlib.Core.Logic.{by_cases}
 use mathlib.Core.Bool.{Bool, true}
-use mathlib.Core.List.{List}
+use mathlib.Core.List.{List, [], ◌∷◌}
 use native.Mathlib.Decide.{ℕ_discrete}
 use native.Mathlib.Nat.{suc_inj}
 use native.Mathlib.Omega.{arith}
 use Prim.Native.Nat.{ℕ, zero, suc, ◌+◌, ◌-◌, ◌*◌, ◌<◌, ◌≤◌}
-use lib.ListN.{length, get_or}
-use Rattle.std.specs.Prelude.{Option, Some, None, slice_get}
-use Rattle.std.proofs.lemmas.Option.{slice_get_within}
+use native.Mathlib.Numerals.{add-one}
+use lib.ListN.{length, get_or, drop}
+use Rattle.std.proofs.lemmas.List.{length-drop}
 use Rattle.seqs.specs.Seqs.{Says}
 use Rattle.linked_list.specs.Links.{home, at, row, Linked}
 use Rattle.linked_list.proofs.Laws.{at_lt}
 use Rattle.linked_list.proofs.View.{seat}
-use Rattle.linked_list.proofs.Getters.{at_some, none_past}
 use Rattle.sound_parts.specs.Tests.{UseAt, SlotsAt, Around, climb}
 use Rattle.sound_parts.specs.Cross.{step_up}
 
@@ -37,34 +36,48 @@ climb_from o b r so sb sr p a (suc m) h A = let w : m ≡ suc m - 1 = omega arit
 
 -- ---- the slots
 
+-- the first that is left of l past its first j, and none
+first_left : (l : List ℕ) (j x : ℕ) (r : List ℕ) → drop j l ≡ x ∷ r → (at l j ≡ suc x) × (drop (suc j) l ≡ r)
+first_left [] zero x r e = absurd (omega (arith, ap length e))
+first_left [] (suc j) x r e = absurd (omega (arith, ap length e))
+first_left (y ∷ l) zero x r e = (ap (λ (t : List ℕ). at t 0) e, ap (drop 1) e)
+first_left (y ∷ l) (suc j) x r e = first_left l j x r e
+
+none_left : (l : List ℕ) (j : ℕ) → drop j l ≡ [] → length l ≤ j
+none_left l j e = omega (arith, ap length e, length-drop j l)
+
 module _ (o v d u : ℕ) (to tu ss su : List ℕ) (c : ℕ) where
   abbrev l : List ℕ
   l = row (2 * o) u ss c
 
-  -- the first j uses of the list c are as they must be, and next is the one after them
-  pub record UsesTo (next : Option ℕ) (j : ℕ) : Type 0 where
+  -- the first j uses of the list c are as they must be, and the others are left
+  pub record UsesTo (left : List ℕ) (j : ℕ) : Type 0 where
     pub few : j ≤ 64
-    pub within : j ≤ length l
-    pub here : next ≡ slice_get l j
+    pub rest : drop j l ≡ left
     pub uses : (i x : ℕ) → i < j → at l i ≡ suc x → UseAt o v d u to tu su c x
 
-  pub uses_more : (next next' : Option ℕ) (j x : ℕ) → UsesTo next j → next ≡ Some x → j < 64 → UseAt o v d u to tu su c x → next' ≡ slice_get l (j + 1) → UsesTo next' (j + 1)
-  uses_more next next' j x U n h g e =
-      let w : slice_get l j ≡ Some x = sym U.here ∙ n in
-      record {
-        few = omega arith;
-        within = omega (arith, slice_get_within l j x w);
-        here = e;
-        uses = λ i y m f. by_cases (ℕ_discrete i j) (λ q. subst (λ (z : ℕ). UseAt o v d u to tu su c z) (suc_inj (sym (at_some l j w) ∙ ap (at l) (sym q) ∙ f)) g) (λ q. U.uses i y (omega arith) f);
-      }
+  pub uses_begun : {left : List ℕ} → left ≡ l → UsesTo left 0
+  uses_begun e = record { few = omega arith; rest = sym e; uses = λ i x h. absurd (omega (arith, h)) }
 
-  pub uses_all : (next : Option ℕ) (j : ℕ) → UsesTo next j → next ≡ None → SlotsAt o v d u to tu ss su c
-  uses_all next j U n =
-      let short : length l ≤ j = none_past l j (sym U.here ∙ n) in
+  module _ {x j : ℕ} {left : List ℕ} (U : UsesTo (x ∷ left) j) where
+    pub use_there : at l j ≡ suc x
+    use_there = (first_left l j x left U.rest).0
+
+    pub uses_more : j < 64 → UseAt o v d u to tu su c x → UsesTo left (j + 1)
+    uses_more h g =
+        record {
+          few = omega arith;
+          rest = rw (add-one j) (first_left l j x left U.rest).1;
+          uses = λ i y m f. by_cases (ℕ_discrete i j) (λ q. subst (λ (z : ℕ). UseAt o v d u to tu su c z) (suc_inj (sym use_there ∙ ap (at l) (sym q) ∙ f)) g) (λ q. U.uses i y (omega arith) f);
+        }
+
+    pub too_long : 64 ≤ j → SlotsAt o v d u to tu ss su c → ⊥
+    too_long h S = omega (arith, at_lt l j x use_there, S.short)
+
+    pub unheld : (UseAt o v d u to tu su c x → ⊥) → SlotsAt o v d u to tu ss su c → ⊥
+    unheld g S = g (S.uses j x use_there)
+
+  pub uses_all : (j : ℕ) → UsesTo [] j → SlotsAt o v d u to tu ss su c
+  uses_all j U =
+      let short : length l ≤ j = none_left l j U.rest in
       record { short = omega (arith, U.few); uses = λ i x f. U.uses i x (omega (arith, at_lt l i x f)) f }
-
-  pub too_long : (next : Option ℕ) (j x : ℕ) → UsesTo next j → next ≡ Some x → 64 ≤ j → SlotsAt o v d u to tu ss su c → ⊥
-  too_long next j x U n h S = omega (arith, slice_get_within l j x (sym U.here ∙ n), S.short)
-
-  pub unheld : (next : Option ℕ) (j x : ℕ) → UsesTo next j → next ≡ Some x → (UseAt o v d u to tu su c x → ⊥) → SlotsAt o v d u to tu ss su c → ⊥
-  unheld next j x U n g S = g (S.uses j x (at_some l j (sym U.here ∙ n)))

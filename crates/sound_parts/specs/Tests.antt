@@ -3,6 +3,9 @@ use Rattle.std.specs.Prelude.{◌≡◌, Bool, true, false, List, ℕ, suc, ◌+
 use Rattle.table.specs.Table.{stamp, count}
 use Rattle.linked_list.specs.declared.Lists.{Lists}
 use Rattle.linked_list.specs.Links.{home, at, row}
+use Rattle.sound_parts.specs.declared.parts.Births.{Births}
+use Rattle.sound_parts.specs.declared.parts.Rows.{Rows}
+use Rattle.sound_parts.specs.declared.parts.Nest.{Nest}
 use Rattle.sound_parts.specs.Cross.{step_up, climb_by}
 
 -- the family f has nc lists and nn nodes
@@ -106,3 +109,56 @@ pub record NestOk (o b r : ℕ) (to tb tr so sb sr fl : List ℕ) : Type 0 where
   pub blocks : Direct r b sb tb tr
   pub flags : Flags o to fl
   pub climbs : Climbs o b r to so sb sr (count to)
+
+-- ---- the same of the structs that the tests are handed
+
+abbrev pub IsLive : Births → ℕ → Type 0
+IsLive t p = 0 < stamp t.places t.words.now p
+
+abbrev pub LivesInOne : Births → Births → ℕ → Type 0
+LivesInOne a b k = LivesIn a.places b.places a.words.now b.words.now k
+
+abbrev pub HomesFoundIn : Rows → (ℕ → Bool → Type 0) → Bool → Type 0
+HomesFoundIn s B r = HomesFound s.lists.nc s.nodes.places s.words.now s.nodes.words.now B r
+
+abbrev pub MustIn : Rows → Type 0
+MustIn s = Must s.lists.nc s.nodes.places s.words.now s.nodes.words.now
+
+abbrev pub ShortIn : Rows → Type 0
+ShortIn s = Short s.lists.nc s.lists.nn s.words.now
+
+abbrev pub FlagsOf : Births → List ℕ → Type 0
+FlagsOf t fl = Flags t.places t.words.now fl
+
+abbrev pub UseIn : Births → ℕ → Rows → ℕ → ℕ → Type 0
+UseIn t v su c x = UseAt t.places v su.lists.nc su.nodes.places t.words.now su.nodes.words.now su.words.now c x
+
+abbrev pub SlotsIn : Births → ℕ → Rows → Rows → Type 0
+SlotsIn t v ss su = Slots t.places v su.lists.nc su.nodes.places t.words.now su.nodes.words.now ss.words.now su.words.now
+
+abbrev pub UsesFit : Births → Births → Births → Rows → Rows → Type 0
+UsesFit to tb tv ss su = UsesOk to.places tb.places tv.places su.nodes.places to.words.now tb.words.now tv.words.now su.nodes.words.now ss.words.now su.words.now
+
+abbrev pub ValuesFit : Births → Births → Rows → Type 0
+ValuesFit to tb sv = ValsOk to.places tb.places sv.nodes.places to.words.now tb.words.now sv.nodes.words.now sv.words.now
+
+abbrev pub climb_in : Nest → ℕ → ℕ → Bool
+climb_in e n p = climb e.ops.nodes.places e.blocks.nodes.places e.regions.nodes.places e.ops.words.now e.blocks.words.now e.regions.words.now n p
+
+abbrev pub AroundIn : Nest → ℕ → ℕ → Type 0
+AroundIn e p a = Around e.ops.nodes.places e.blocks.nodes.places e.regions.nodes.places e.ops.words.now e.blocks.words.now e.regions.words.now p a
+
+abbrev pub OutsideIn : Nest → ℕ → ℕ → Type 0
+OutsideIn e n p = Outside e.ops.nodes.places e.blocks.nodes.places e.regions.nodes.places e.ops.words.now e.blocks.words.now e.regions.words.now n p
+
+abbrev pub ClimbsIn : Nest → ℕ → Type 0
+ClimbsIn e n = Climbs e.ops.nodes.places e.blocks.nodes.places e.regions.nodes.places e.ops.nodes.words.now e.ops.words.now e.blocks.words.now e.regions.words.now n
+
+abbrev pub RegionsFit : Nest → Type 0
+RegionsFit e = RegionsOk e.ops.nodes.places e.regions.nodes.places e.ops.nodes.words.now e.regions.nodes.words.now e.regions.words.now
+
+abbrev pub PlacedIn : Nest → Type 0
+PlacedIn e = Direct e.blocks.nodes.places e.ops.nodes.places e.ops.words.now e.ops.nodes.words.now e.blocks.nodes.words.now × Direct e.regions.nodes.places e.blocks.nodes.places e.blocks.words.now e.blocks.nodes.words.now e.regions.nodes.words.now
+
+abbrev pub NestFits : Nest → List ℕ → Type 0
+NestFits e fl = NestOk e.ops.nodes.places e.blocks.nodes.places e.regions.nodes.places e.ops.nodes.words.now e.blocks.nodes.words.now e.regions.nodes.words.now e.ops.words.now e.blocks.words.now e.regions.words.now fl

@@ -1,5 +1,5 @@
 -- Parts of a table that are lent to be read, and the answers of tests over them. Assumes nothing.
-use Rattle.std.proofs.Common.{◌≡◌, ◌∙◌, ap, ⊎_elim, ℕ, zero, suc, ◌+◌, ◌-◌, ◌≤◌, ◌<◌, Bool, true, false, not, eqb, MatchBool, List, length, get_or, take, drop, arith, subst, sym}
+use Rattle.std.proofs.Common.{◌≡◌, ◌∙◌, ap, ⊎_elim, ℕ, ◌+◌, ◌-◌, ◌≤◌, ◌<◌, Bool, true, false, eqb, MatchBool, List, length, get_or, take, drop, arith, subst, sym}
 use Rattle.std.proofs.lemmas.Bool.{cases_eq, eq-eqb, ne_eqb}
 use Rattle.std.proofs.lemmas.List.{get_or-take, get_or-drop, get_or_default}
 use Rattle.seqs.specs.Seqs.{Says}
@@ -20,7 +20,3 @@ pub says_eqb : (a b : ℕ) {P : Type 0} → (a ≡ b → P) → (P → a ≡ b) 
 says_eqb a b {P} f g = ⊎_elim
     (λ e. subst (λ (x : Bool). Says x P) (sym (eq-eqb a b e)) (f e))
     (λ d. says_false (eqb a b) (ne_eqb a b d) (λ p. d (g p))) (cases_eq a b)
-
-pub says_nonzero : (s : ℕ) {P : Type 0} → (0 < s → P) → (P → 0 < s) → Says (not (eqb s 0)) P
-says_nonzero zero f g = λ p. absurd (omega (arith, g p))
-says_nonzero (suc s) {P} f g = subst (λ (x : Bool). Says (not x) P) (sym (ne_eqb (suc s) 0 (omega arith))) (f (omega arith))

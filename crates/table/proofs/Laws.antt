@@ -1,6 +1,7 @@
 -- Laws of the definitions of specs/Table.antt. Assumes nothing.
 use Rattle.std.proofs.Common.{◌≡◌, refl, sym, ap, ap₂, ◌∙◌, subst, Bool, true, false, cond, ◌⊎◌, inl, inr, ⊎_elim, List, [], ◌∷◌, ◌++◌, append-nil, ℕ, zero, suc, ◌+◌, ◌≤◌, ◌<◌, suc-le-suc, eq-or-lt_of_le, le_of_suc-le-suc, not-suc-le-zero, arith, eq-eqb, ne_eqb, eqb, Option, Some, None}
-use native.Mathlib.Decide.{dec_lt}
+use mathlib.Core.Logic.{ite, if_pos, if_neg}
+use native.Mathlib.Decide.{ℕ_discrete, dec_lt}
 use lib.Arith.{lt_of_le-ne}
 use Rattle.table.specs.Table.{Table, Shape, Ordered, Rank, count, order, stamp, live, entry, tab, find_in, without}
 use Rattle.bits.specs.Map.{lowest}
@@ -49,47 +50,53 @@ tri i j = ⊎_elim (λ h. ⊎_elim (λ e. inr (inl e)) (λ l. inl l) (eq-or-lt_o
 
 -- ---- without
 without_append : (p : ℕ) (a b : List (ℕ × ℕ)) → without p (a ++ b) ≡ without p a ++ without p b
-unfolding without
 without_append p [] b = refl
-without_append p (e ∷ a) b = go (eqb e.1 p) (without_append p a b)
+without_append p (e ∷ a) b = go (ℕ_discrete e.1 p) (without_append p a b)
   where
-    go : (q : Bool) → without p (a ++ b) ≡ without p a ++ without p b → cond q (without p (a ++ b)) (e ∷ without p (a ++ b)) ≡ cond q (without p a) (e ∷ without p a) ++ without p b
-    go true r = r
-    go false r = ap (λ (l : List (ℕ × ℕ)). e ∷ l) r
+    go : (q : Dec (e.1 ≡ p)) → without p (a ++ b) ≡ without p a ++ without p b → ite q (without p (a ++ b)) (e ∷ without p (a ++ b)) ≡ ite q (without p a) (e ∷ without p a) ++ without p b
+    go (yes _) r = r
+    go (no _) r = ap (λ (l : List (ℕ × ℕ)). e ∷ l) r
+
+-- one entry, which goes or stays
+gone_one : (p : ℕ) (e : ℕ × ℕ) → e.1 ≡ p → without p (e ∷ []) ≡ []
+gone_one p e h = if_pos (ℕ_discrete e.1 p) h [] (e ∷ [])
+
+kept_one : (p : ℕ) (e : ℕ × ℕ) → (e.1 ≡ p → ⊥) → without p (e ∷ []) ≡ e ∷ []
+kept_one p e h = if_neg (ℕ_discrete e.1 p) h [] (e ∷ [])
 
 without_none : (f : ℕ → ℕ × ℕ) (p m : ℕ) → ((i : ℕ) → i < m → (f i).1 ≡ p → ⊥) → without p (tab f m) ≡ tab f m
-unfolding tab without
+unfolding tab
 without_none f p zero h = refl
 without_none f p (suc m) h =
     without_append p (tab f m) (f m ∷ [])
-    ∙ ap₂ (λ (a : List (ℕ × ℕ)) (q : Bool). a ++ cond q [] (f m ∷ [])) (without_none f p m (λ i l. h i (omega arith))) (ne_eqb (f m).1 p (h m (omega arith)))
+    ∙ ap₂ (λ (a b : List (ℕ × ℕ)). a ++ b) (without_none f p m (λ i l. h i (omega arith))) (kept_one p (f m) (h m (omega arith)))
 
 -- the one at k goes: what comes before stays, and what comes after moves down
 without_last : (f g : ℕ → ℕ × ℕ) (p k m : ℕ) → k ≡ m → (f k).1 ≡ p → ((i : ℕ) → i < suc m → (i ≡ k → ⊥) → (f i).1 ≡ p → ⊥) → ((i : ℕ) → i < k → g i ≡ f i) → without p (tab f (suc m)) ≡ tab g m
-unfolding tab without
+unfolding tab
 without_last f g p k m q e d lo =
     without_append p (tab f m) (f m ∷ [])
-    ∙ ap₂ (λ (a : List (ℕ × ℕ)) (b : Bool). a ++ cond b [] (f m ∷ [])) (without_none f p m (λ i r. d i (omega arith) (omega arith)) ∙ tab_ext f g m (λ i r. sym (lo i (omega arith)))) (eq-eqb (f m).1 p (ap (λ (j : ℕ). (f j).1) (sym q) ∙ e))
+    ∙ ap₂ (λ (a b : List (ℕ × ℕ)). a ++ b) (without_none f p m (λ i r. d i (omega arith) (omega arith)) ∙ tab_ext f g m (λ i r. sym (lo i (omega arith)))) (gone_one p (f m) (ap (λ (j : ℕ). (f j).1) (sym q) ∙ e))
     ∙ append-nil (tab g m)
 
 pub without_one : (f g : ℕ → ℕ × ℕ) (p k m : ℕ) → k ≤ m → (f k).1 ≡ p → ((i : ℕ) → i < suc m → (i ≡ k → ⊥) → (f i).1 ≡ p → ⊥) → ((i : ℕ) → i < k → g i ≡ f i) → ((i : ℕ) → k ≤ i → i < m → g i ≡ f (suc i)) → without p (tab f (suc m)) ≡ tab g m
-unfolding tab without
+unfolding tab
 without_one f g p k zero l e d lo hi = without_last f g p k zero (omega arith) e d lo
 without_one f g p k (suc m) l e d lo hi = ⊎_elim (λ q. without_last f g p k (suc m) q e d lo)
     (λ q. without_append p (tab f (suc m)) (f (suc m) ∷ [])
-    ∙ ap₂ (λ (a : List (ℕ × ℕ)) (b : Bool). a ++ cond b [] (f (suc m) ∷ [])) (without_one f g p k m (omega arith) e (λ i r. d i (omega arith)) lo (λ i r u. hi i r (omega arith))) (ne_eqb (f (suc m)).1 p (d (suc m) (omega arith) (omega arith)))
+    ∙ ap₂ (λ (a b : List (ℕ × ℕ)). a ++ b) (without_one f g p k m (omega arith) e (λ i r. d i (omega arith)) lo (λ i r u. hi i r (omega arith))) (kept_one p (f (suc m)) (d (suc m) (omega arith) (omega arith)))
     ∙ ap (λ (x : ℕ × ℕ). tab g m ++ (x ∷ [])) (sym (hi m (omega arith) (omega arith)))) (eq-or-lt_of_le l)
 
 -- ---- find
 module _ (n : ℕ) (t : List ℕ) (x r : ℕ) (T : Table n t) (R : Rank n t x r) where
-  pub find_hit : (s p : ℕ) → r < count t → p ≡ order t r → s ≡ stamp n t p → s ≡ x + 1 → find_in (live n t) x ≡ Some p
-  find_hit s p l e f g =
-      hit (entry n t) (count t) r x l (λ i q z. omega (arith, R.low i q, T.used i (omega arith))) (omega (arith, f ∙ ap (stamp n t) e)) ∙ ap Some (sym e)
+  pub find_hit : (p : ℕ) → p ≡ order t r → r < count t → stamp n t p ≡ suc x → find_in (live n t) x ≡ Some p
+  find_hit p e l f =
+      hit (entry n t) (count t) r x l (λ i q z. omega (arith, R.low i q, T.used i (omega arith))) (omega (arith, f, ap (stamp n t) e)) ∙ ap Some (sym e)
 
-  pub find_other : (s p : ℕ) → r < count t → p ≡ order t r → s ≡ stamp n t p → (s ≡ x + 1 → ⊥) → find_in (live n t) x ≡ None
-  find_other s p l e f g = miss (entry n t) (count t) x (λ i q z.
+  pub find_other : (p : ℕ) → p ≡ order t r → r < count t → (stamp n t p ≡ suc x → ⊥) → find_in (live n t) x ≡ None
+  find_other p e l g = miss (entry n t) (count t) x (λ i q z.
       let u : 0 < stamp n t (order t i) = T.used i q in
-      let k : s ≡ stamp n t (order t r) = f ∙ ap (stamp n t) e in
+      let k : stamp n t p ≡ stamp n t (order t r) = ap (stamp n t) e in
       ⊎_elim (λ h. omega (arith, R.low i h)) (⊎_elim (λ h. g (omega (arith, ap (λ (j : ℕ). stamp n t (order t j)) h))) (λ h. omega (arith, T.rising r i h q, R.high r (omega arith) l))) (tri i r))
 
   pub find_past : count t ≤ r → find_in (live n t) x ≡ None

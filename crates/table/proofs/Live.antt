@@ -1,15 +1,15 @@
 -- A table's live things by places: a place stands in the live list exactly where it has a stamp, and with the number that the stamp says.
 -- Assumes nothing.
-use Rattle.std.proofs.Common.{◌≡◌, refl, sym, ap, ◌∙◌, Bool, cond, ◌≢◌, List, [], ◌∷◌, ◌++◌, ℕ, zero, suc, ◌+◌, ◌-◌, ◌<◌, arith, eq-eqb, ne_eqb, length, get_or, length-append}
+use Rattle.std.proofs.Common.{◌≡◌, refl, sym, ap, ◌∙◌, ◌≢◌, List, [], ◌∷◌, ◌++◌, ℕ, zero, suc, ◌+◌, ◌-◌, ◌<◌, arith, length, get_or, length-append}
 use mathlib.Core.Logic.{if_pos, if_neg, by_cases}
 use native.Mathlib.Decide.{ℕ_discrete}
 use lib.ListN.{get_or-map}
 use Rattle.std.specs.Prelude.{Some, None}
-use Rattle.table.specs.Table.{Table, order, stamp, live, entry, tab, find_in, without}
+use Rattle.table.specs.Table.{Table, order, stamp, live, entry, tab, find_in}
 use Rattle.table.specs.Table.{count as lives}
 use Rattle.table.proofs.Facts.{find_iff}
 use Rattle.table.proofs.Canon.{tab_get}
-use Rattle.seqs.specs.Seqs.{count, without_by}
+use Rattle.seqs.specs.Seqs.{count}
 use Rattle.seqs.specs.Entries.{lookup, places}
 use Rattle.seqs.proofs.Base.{count_append, map_append, tick_yes, tick_no}
 
@@ -62,14 +62,6 @@ pub length_live : (f : ℕ → Entry) (m : ℕ) → length (places (tab f m)) �
 unfolding tab
 length_live f zero = refl
 length_live f (suc m) = ap length (map_append (λ (x : Entry). x.1) (tab f m) (f m ∷ [])) ∙ length-append (places (tab f m)) ((f m).1 ∷ []) ∙ omega (arith, length_live f m)
-
-pub without_is : (p : ℕ) (l : List Entry) → without p l ≡ without_by ℕ_discrete (λ (e : Entry). e.1) p l
-unfolding without
-without_is p [] = refl
-without_is p (e ∷ l) =
-    by_cases (ℕ_discrete e.1 p)
-    (λ y. ap (λ (b : Bool). cond b (without p l) (e ∷ without p l)) (eq-eqb e.1 p y) ∙ without_is p l ∙ sym (if_pos (ℕ_discrete e.1 p) y (without_by ℕ_discrete (λ (x : Entry). x.1) p l) (e ∷ without_by ℕ_discrete (λ (x : Entry). x.1) p l)))
-    (λ n. ap (λ (b : Bool). cond b (without p l) (e ∷ without p l)) (ne_eqb e.1 p n) ∙ ap (λ (r : List Entry). e ∷ r) (without_is p l) ∙ sym (if_neg (ℕ_discrete e.1 p) n (without_by ℕ_discrete (λ (x : Entry). x.1) p l) (e ∷ without_by ℕ_discrete (λ (x : Entry). x.1) p l)))
 
 module _ {n : ℕ} {t : List ℕ} (T : Table n t) where
   pub live_stamp : (p : ℕ) → 0 < count ℕ_discrete p (places (live n t)) → (p < n) × (0 < stamp n t p)

@@ -1,7 +1,8 @@
 -- The birth table of n places in one slice, and what its functions do to the things alive: pairs of a birth number and a place.
 -- Assumes nothing: these are definitions.
 use Rattle.std.specs.Prelude.{◌≡◌, List, [], ◌∷◌, ◌++◌, ℕ, zero, suc, ◌+◌, ◌-◌, ◌≤◌, ◌<◌, eqb, cond, length, get_or, Option, Some, None}
-pub use Rattle.seqs.specs.Seqs.{Says}
+use Rattle.std.proofs.Math.Decide.{ℕ_discrete}
+use Rattle.seqs.specs.Seqs.{without_by}
 
 -- the cells: the next birth number, how many live, the place of the i-th live thing, the stamp (birth number + 1; 0 where free) of place p
 abbrev pub next : List ℕ → ℕ
@@ -66,9 +67,8 @@ find_in [] x = None
 find_in (e ∷ l) x = cond (eqb e.0 x) (Some e.1) (find_in l x)
 
 -- without the one at place p
-unfoldable pub without : ℕ → List (ℕ × ℕ) → List (ℕ × ℕ)
-without p [] = []
-without p (e ∷ l) = cond (eqb e.1 p) (without p l) (e ∷ without p l)
+abbrev pub without : ℕ → List (ℕ × ℕ) → List (ℕ × ℕ)
+without p l = without_by ℕ_discrete (λ e. e.1) p l
 
 -- r is how many live things have a stamp of at most x
 pub record Rank (n : ℕ) (t : List ℕ) (x r : ℕ) : Type 0 where

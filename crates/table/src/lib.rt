@@ -5,10 +5,21 @@
 #![tactic(auto)]
 
 ghost use Rattle.std.specs.Prelude.{◌≡◌, ◌+◌, ◌-◌, ◌≤◌, ◌<◌, length, get_or};
-ghost use Rattle.table.specs.Table.{Table, Shape, Ordered, Placed, Rested, Says, Rank, Bracket, Born, Ended, Shifted, Started, next, order, stamp, live, find_in};
+ghost use Rattle.seqs.specs.Cells.{decoded};
+ghost use Rattle.seqs.specs.Seqs.{Says};
+ghost use Rattle.table.specs.Table.{Table, Shape, Ordered, Placed, Rested, Rank, Bracket, Born, Ended, Shifted, Started, next, order, stamp, live, find_in};
 
-// The stamp of place `p`: its birth number + 1, and 0 where it is free.
-pub fn stamp_at(t: &[u32], n: usize, p: usize) -> usize
+// The birth number of the thing at the place `p`; none where it is free.
+pub fn number_at(t: &[u32], n: usize, p: usize) -> Option<u32>
+    requires { Shape n t.now × (p < n) }
+    ensures { result ≡ decoded (stamp n t.now p) }
+{
+    t[2 + n + p].checked_sub(1)
+}
+
+// Kept (point 1): the search by halves and the test of the order compare stamps as they are stored, with 0 below all of them.
+// The stamp of the place `p`: its birth number + 1, and 0 where it is free.
+fn stamp_at(t: &[u32], n: usize, p: usize) -> usize
     requires { Shape n t.now × (p < n) }
     ensures { result ≡ stamp n t.now p }
 {
@@ -52,14 +63,16 @@ pub fn find(t: &[u32], n: usize, number: u32) -> Option<usize>
     requires { Table n t.now }
     ensures { result ≡ find_in (live n t.now) number }
 {
-    let x = number as usize;
-    let k = rank(t, n, x);
+    let k = rank(t, n, number as usize);
     if t[1] as usize <= k {
         return None;
     }
     let p = order_at(t, n, k);
-    let s = stamp_at(t, n, p);
-    if s == x + 1 { Some(p) } else { None }
+    if number_at(t, n, p) == Some(number) {
+        Some(p)
+    } else {
+        None
+    }
 }
 
 // A thing is born at the free place `p`.
@@ -89,7 +102,8 @@ pub fn end(t: &mut [u32], n: usize, p: usize)
     requires { Table n t.old × ((p < n) × (0 < stamp n t.old p)) }
     ensures { Ended n t.old t.new p }
 {
-    let k = rank(t, n, stamp_at(t, n, p) - 1);
+    let number = number_at(t, n, p).unwrap();
+    let k = rank(t, n, number as usize);
     let l = t[1];
     close_gap(t, k, l as usize);
     t[1 + l as usize] = 0;
@@ -106,6 +120,8 @@ pub fn start(t: &mut [u32], n: usize)
     t.fill(0);
 }
 
+// Kept (point 3): `all` and `is_sorted_by` over the order (tried, two goals left) read each stamp three times, at every edit; a closure in `all` that
+// keeps the last stamp tells a proof nothing.
 // Whether the order is one of rising numbers.
 fn check_order(t: &[u32], n: usize) -> bool
     requires { Shape n t.now }

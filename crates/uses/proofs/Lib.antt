@@ -1,4 +1,3 @@
-pub mod Looking
 pub mod Growing
 pub mod Taking
 pub mod Moving

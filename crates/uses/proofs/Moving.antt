@@ -38,8 +38,8 @@ use Rattle.context.specs.Steps.{Moved}
 use Rattle.context.specs.Performed.{Performed}
 use Rattle.uses.specs.Look.{DefAt}
 use Rattle.uses.specs.Some.{HeldIn}
+use Rattle.context.proofs.Numbers.{same_row}
 use Rattle.context.proofs.Performing.{refuses, accepts}
-use Rattle.uses.proofs.Looking.{same_row}
 
 -- ---- a name is missing: this, or the other
 
@@ -55,7 +55,7 @@ module _ {l : Layout} {m : List ℕ} (S : SoundStore l m) (E : Edit) (sl : Slot)
 -- it stands in no set with another number
 pub away : (l : Layout) (d : ℕ) (h : Option ℕ) → option_eq nat_eq h (Some d) ≡ false → con_of (con l use_sets) (given h) ≢ some (con l use_sets d)
 away l d None n q = some_none q refl
-away l d (Some j) n q = let z : true ≡ false = sym (eq-eqb j d (same_row l j d (some_inj q))) ∙ n in cc
+away l d (Some j) n q = let z : true ≡ false = sym (eq-eqb j d (same_row l use_sets j d (some_inj q))) ∙ n in cc
 
 -- ---- the edit
 

@@ -12,8 +12,9 @@ use Rattle.std.proofs.Math.ListN.{drop_of_length-le}
 use borrow.Author.Tests.{ne_eqb}
 use Rattle.std.proofs.Common.{None, Ok, inl, inr}
 use Rattle.edit.specs.Record.{Slot, operand, Definition, replace_some}
-use Rattle.edit.specs.Taken.{edit_of}
-use Rattle.edit.proofs.ByKind.{kinds}
+use Rattle.edit.specs.Taken.{edit_by}
+use Rattle.edit.specs.declared.Kind.TheVariants.{ReplaceSome}
+use Rattle.edit.proofs.ByKind.{by_replace_some}
 use Rattle.edit.specs.Answer.{clean, found}
 use Rattle.rules.specs.Table.{Table, member}
 use Rattle.rules.specs.History.{births, carry_out, remember, defined, place_some}
@@ -164,5 +165,5 @@ module _ {l : Layout} {m : List ℕ} (S : SoundStore l m) {a b d e : ℕ} (A : D
 
 -- ---- the record
 
-pub some_edit : (fs : List ℕ) {a b : ℕ} → a ≡ get_or fs 0 0 → b ≡ get_or fs 1 0 → replace_some a b (drop 2 fs) ≡ edit_of 34 fs
-some_edit fs p q = ap₂ (λ (x y : ℕ). replace_some x y (drop 2 fs)) p q ∙ sym (kinds fs).some_uses
+pub some_edit : (fs : List ℕ) {a b : ℕ} → a ≡ get_or fs 0 0 → b ≡ get_or fs 1 0 → replace_some a b (drop 2 fs) ≡ edit_by ReplaceSome fs
+some_edit fs p q = ap₂ (λ (x y : ℕ). replace_some x y (drop 2 fs)) p q ∙ sym (by_replace_some fs)

@@ -1,14 +1,15 @@
 -- Retarget some, each way out. Assumes nothing.
-use mathlib.Core.Path.{◌≡◌, refl, sym, ap, ap₂, ◌∙◌, subst}
+use mathlib.Core.Path.{◌≡◌, refl, sym, ap, ap₂, ◌∙◌}
 use mathlib.Core.Bool.{Bool, true, false, cond, ◌&&◌}
 use mathlib.Core.List.{List, [], ◌∷◌}
 use native.Mathlib.Omega.{arith}
-use Prim.Native.Nat.{ℕ, ◌+◌, ◌-◌, ◌≤◌}
+use Prim.Native.Nat.{ℕ}
 use lib.ListN.{get_or, drop}
 use borrow.Author.Tests.{eqb-true}
 use Rattle.edit.specs.Record.{successor, Definition, of_value, of_block, Edit, retarget_some}
-use Rattle.edit.specs.Taken.{edit_of}
-use Rattle.edit.proofs.ByKind.{kinds}
+use Rattle.edit.specs.Taken.{edit_by}
+use Rattle.edit.specs.declared.Kind.TheVariants.{RetargetSome}
+use Rattle.edit.proofs.ByKind.{by_retarget_some}
 use Rattle.edit.specs.Answer.{clean, found}
 use Rattle.std.proofs.Common.{Ok, Err}
 use Rattle.edit.specs.declared.Refusal.TheVariants.{StrayUser}
@@ -17,9 +18,8 @@ use Rattle.rules.specs.History.{same_definition}
 use Rattle.rules.specs.Refusal.{check, from_state, refusal_of, named, definition_named}
 use Rattle.rules.specs.Verdict.{sight, stray_user}
 use Rattle.rules.specs.Step.{answer}
-use Rattle.places.specs.Store.{blk, use_sets, Con, State, Live}
+use Rattle.places.specs.Store.{blk, block_uses, use_sets, Con, State}
 use Rattle.places.specs.View.{num}
-use Rattle.places.specs.Parts.{rows_of}
 use Rattle.places.specs.Hist.{meaning}
 use Rattle.places.specs.Verdict.{place_stray_user}
 use Rattle.places.proofs.RuleAccept.{ended_of}
@@ -30,15 +30,14 @@ use Rattle.places.proofs.RuleRetarget.{chosen, retarget_accept}
 use Rattle.places.proofs.RuleCodes.{definitions_there}
 use Rattle.places.proofs.Verdicts.{stray_num}
 use Rattle.context.specs.declared.Layout.{Layout}
-use Rattle.context.specs.Memory.{con, state_of, SoundStore}
+use Rattle.context.specs.Memory.{con, ListIs, state_of, SoundStore, LooksUp}
 use Rattle.context.specs.Performed.{Performed}
 use Rattle.uses.specs.Look.{DefAt}
 use Rattle.uses.specs.Retarget.{RetargetedAll}
-use Rattle.context.proofs.Families.{con_back}
 use Rattle.context.proofs.Performing.{refuses, accepts}
 
-pub retarget_edit : (fs : List ℕ) {a b : ℕ} → a ≡ get_or fs 0 0 → b ≡ get_or fs 1 0 → retarget_some a b (drop 2 fs) ≡ edit_of 35 fs
-retarget_edit fs p q = ap₂ (λ (x y : ℕ). retarget_some x y (drop 2 fs)) p q ∙ sym (kinds fs).some_predecessors
+pub retarget_edit : (fs : List ℕ) {a b : ℕ} → a ≡ get_or fs 0 0 → b ≡ get_or fs 1 0 → retarget_some a b (drop 2 fs) ≡ edit_by RetargetSome fs
+retarget_edit fs p q = ap₂ (λ (x y : ℕ). retarget_some x y (drop 2 fs)) p q ∙ sym (by_retarget_some fs)
 
 -- ---- uses placed where they are
 
@@ -59,48 +58,31 @@ placed_self a p (e ∷ t) = ap₂ {C = List (ℕ × Definition)} (λ d r. (e.0, 
     go true s false = refl
     go false s y = refl
 
--- ---- the block of a set of uses
+-- ---- the set of uses of a block
 
-module _ {l : Layout} {m : List ℕ} {n d : ℕ} (A : DefAt l m successor n d) where
-  number : l.values + A.place ≡ d
-  unfolding rows_of
-  number = sym (ap (λ (c : Con). (rows_of l.values l.ops).row c.0 c.1.1) A.row) ∙ (con_back l.values l.ops use_sets d).number
-
-  pub set_past : l.values ≤ d
-  set_past = omega (arith, number)
-
-  set_place : A.place ≡ d - l.values
-  set_place = omega (arith, number)
-
-  pub set_live : Live (state_of l m) (blk, d - l.values)
-  set_live = subst (λ (p : ℕ). Live (state_of l m) (blk, p)) set_place A.live
+pub set_at : {l : Layout} {m : List ℕ} {a d : ℕ} (p : ℕ) → LooksUp (state_of l m) blk a (Ok p) → ListIs l use_sets (block_uses, (blk, p)) d → DefAt l m successor a d
+set_at p F D = record { place = p; live = F.0; number = F.1; row = D.row; inside = D.inside }
 
 -- ---- the edit
 
-module _ {l : Layout} {m : List ℕ} (S : SoundStore l m) {a b d e : ℕ} (A : DefAt l m successor a d) (B : DefAt l m successor b e) (ps : List ℕ) {r : Bool} (R : r ≡ place_stray_user (state_of l m) (blk, d - l.values)) where
+module _ {l : Layout} {m : List ℕ} (S : SoundStore l m) {a b e : ℕ} (p : ℕ) (F : LooksUp (state_of l m) blk a (Ok p)) (B : DefAt l m successor b e) (ps : List ℕ) {r : Bool} (R : r ≡ place_stray_user (state_of l m) (blk, p)) where
   abbrev P : State
   P = state_of l m
 
   abbrev E : Edit
   E = retarget_some a b ps
 
-  stray_is : stray_user (sight (meaning P)) a ≡ r
-  unfolding meaning
-  stray_is =
-      ap (stray_user (sight (meaning P))) (sym A.number)
-      ∙ stray_num S.sound (ended_of P) A.place A.live
-      ∙ ap (λ (p : ℕ). place_stray_user P (blk, p)) (set_place A)
-      ∙ sym R
-
   code : refusal_of (meaning P) E ≡ check r 18 0
-  unfolding from_state named definition_named
-  code = definitions_there S.sound E successor A.place a A.live A.number b B.place refl B.live B.number ∙ ap (λ (t : Bool). check t 18 0) stray_is
+  unfolding meaning from_state named definition_named
+  code =
+      definitions_there S.sound E successor p a F.0 F.1 b B.place refl B.live B.number
+      ∙ ap (λ (t : Bool). check t 18 0) (ap (stray_user (sight (meaning P))) (sym F.1) ∙ stray_num S.sound (ended_of P) p F.0 ∙ sym R)
 
   pub is_stray : r ≡ true → Performed l E m m (Err StrayUser)
   unfolding check
   is_stray t = refuses E S StrayUser (code ∙ ap (λ (x : Bool). check x 18 0) t)
 
-  module _ (f : r ≡ false) where
+  module _ (f : r ≡ false) {d : ℕ} (D : ListIs l use_sets (block_uses, (blk, p)) d) where
     code₀ : refusal_of (meaning P) E ≡ 0
     unfolding check
     code₀ = code ∙ ap (λ (x : Bool). check x 18 0) f
@@ -108,7 +90,7 @@ module _ {l : Layout} {m : List ℕ} (S : SoundStore l m) {a b d e : ℕ} (A : D
     pub same_block : d ≡ e → Performed l E m m (Ok (0, 0))
     unfolding answer clean found
     same_block q =
-        let same : a ≡ b = sym A.number ∙ ap (λ (c : Con). num P c.1) (sym A.row ∙ ap (con l use_sets) q ∙ B.row) ∙ B.number in
+        let same : a ≡ b = sym F.1 ∙ ap (λ (c : Con). num P c.1) (sym D.row ∙ ap (con l use_sets) q ∙ B.row) ∙ B.number in
         accepts E S code₀
         (retarget_accept P P S.sound a b ps
         (sym (ap (λ (y : ℕ). rehold (placed (of_block a) (of_block y) (chosen (meaning P).history ps) (meaning P).history.uses) (meaning P)) (sym same)
@@ -118,4 +100,4 @@ module _ {l : Layout} {m : List ℕ} (S : SoundStore l m) {a b d e : ℕ} (A : D
 
     pub retargeted : {m' : List ℕ} → RetargetedAll l d e ps m m' → Performed l E m m' (Ok (0, 0))
     unfolding answer clean found
-    retargeted Q = accepts E Q.sound code₀ (Q.state a b A B) Q.rest (settles_same Q.tables) 0 0 refl
+    retargeted Q = accepts E Q.sound code₀ (Q.state a b (set_at p F D) B) Q.rest (settles_same Q.tables) 0 0 refl

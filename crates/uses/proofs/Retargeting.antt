@@ -29,11 +29,11 @@ use Rattle.context.specs.Memory.{part, con, state_of, SoundStore, FirstIs}
 use Rattle.context.specs.Reading.{NextIs}
 use Rattle.context.specs.Steps.{CanMove, Moved}
 use Rattle.context.proofs.Families.{con_back}
+use Rattle.context.proofs.Numbers.{same_row}
 use Rattle.uses.specs.Look.{DefAt}
 use Rattle.uses.specs.Some.{Between}
 use Rattle.uses.specs.Retarget.{marked, Marks, RetargetedOne, RetargetedAll}
 use Rattle.uses.proofs.Choosing.{stands_in_list, chosen_listed}
-use Rattle.uses.proofs.Looking.{same_row}
 use Rattle.uses.proofs.Placing.{num_move, def_kept}
 use Rattle.context.proofs.Cursor.{row, ahead, At, Here, first_at, here, at_end, next_first, next_at, less}
 
@@ -109,7 +109,7 @@ whole ps a b s = rehold (placed (of_block a) (of_block b) (chosen s.history ps) 
 -- marks speak of the table of blocks alone
 marks_kept : {l : Layout} {ps m m' : List ℕ} {w : List Bool} → ((k : Kind) → (state_of l m').tab k ≡ (state_of l m).tab k) → Marks l ps m w → Marks l ps m' w
 unfolding alive
-marks_kept {l} {ps} {m} {m'} {w} same M = record { long = M.long; is = subst (λ (t : Table). (b : ℕ) → 0 < count ℕ_discrete b t.order → marked w b ≡ member (t.num b) ps) (sym (same blk)) M.is }
+marks_kept {l} {ps} {m} {m'} {w} same M = record { is = subst (λ (t : Table). (b : ℕ) → 0 < count ℕ_discrete b t.order → marked w b ≡ member (t.num b) ps) (sym (same blk)) M.is }
 
 pub record Going (l : Layout) (d e : ℕ) (ps : List ℕ) (w : List Bool) (m₀ : List ℕ) (k : Rust.Option ℕ) (m : List ℕ) : Type 0 where
   pub sound : SoundStore l m
@@ -168,7 +168,7 @@ module _ {l : Layout} {d e : ℕ} {ps : List ℕ} {w : List Bool} {m₀ : List �
     -- it moves
     module _ {m' : List ℕ} (y : stands_in_list S ps v ≡ true) (M : Moved l p e m m') where
       c≢ : con l use_sets d ≢ con l use_sets e
-      c≢ q = apart (same_row l d e q)
+      c≢ q = apart (same_row l use_sets d e q)
 
       in_d : fam (con l use_sets d).0 ≡ use_sets
       in_d = (con_back l.values l.ops use_sets d).family

@@ -6,44 +6,32 @@ use native.Mathlib.Omega.{arith}
 use lib.Dec.{leb, eqb}
 use lib.ListN.{length, get_or}
 use borrow.Author.Tests.{le-leb, lt-leb, eq-eqb, ne_eqb}
-use Rattle.std.proofs.Common.{Option, Some, None, Ok, Err}
-use Rattle.std.specs.Prelude.{IsSome}
+use Rattle.std.proofs.Common.{Ok, Err}
 use Rattle.edit.specs.Record.{Slot, remove_use, pop_use}
 use Rattle.edit.specs.Answer.{found}
 use Rattle.edit.specs.declared.Refusal.TheVariants.{NoIndex}
 use Rattle.rules.specs.State.{accept}
 use Rattle.rules.specs.Refusal.{named, check, refusal_of}
-use Rattle.places.specs.Store.{op, usg, slots, use_sets, Con, State, Live, UseHeld}
+use Rattle.places.specs.Store.{op, usg, slots, Con, State, Live, UseHeld}
 use Rattle.places.specs.Hist.{meaning}
 use Rattle.places.specs.Edits.{end_use}
 use Rattle.places.specs.View.{num}
-use Rattle.places.specs.Parts.{con_of}
 use Rattle.places.specs.Roles.{slot_role}
 use Rattle.places.specs.Settled.{Settles}
-use Rattle.places.proofs.Steps.{some_none}
 use Rattle.places.proofs.Settling.{settles_end_use}
 use Rattle.places.proofs.RuleEnds.{at_live, at_held, at_number, remove_accept, pop_accept}
 use Rattle.places.proofs.RuleCodes.{only_operation, remove_code, pop_code, remove_answer, pop_answer}
 use Rattle.context.specs.declared.Layout.{Layout}
-use Rattle.context.specs.Memory.{con, given, state_of, SoundStore, LengthIs, HomeIs}
+use Rattle.context.specs.Memory.{con, state_of, SoundStore, LengthIs}
 use Rattle.context.specs.Reading.{NthIs}
 use Rattle.context.specs.Performed.{Performed}
 use Rattle.uses.specs.Look.{SlotAt, Taken}
 use Rattle.context.proofs.Performing.{refuses, accepts}
 
--- ---- the use at an index, and its definition
+-- ---- the use at an index
 
-module _ {l : Layout} {m : List ℕ} (S : SoundStore l m) {u : ℕ} where
-  pub nth_live : {s i : ℕ} → NthIs l slots s i m u → Live (state_of l m) (usg, u)
-  nth_live {s} N = (S.sound.linked.link (usg, u) slots (con l slots s) N.own).live
-
-  -- a use that lives stands in a set, of a definition that lives
-  pub held : Live (state_of l m) (usg, u) → (h : Option ℕ) → HomeIs l use_sets u m h → IsSome h
-  held L None H = absurd (some_none (S.sound.placed (usg, u) L).in_def H.own)
-  held L (Some d) H = refl
-
-  pub def_live : {h : Option ℕ} {d : ℕ} → HomeIs l use_sets u m h → h ≡ Some d → Live (state_of l m) (con l use_sets d).1
-  def_live {h} {d} H e = (S.sound.linked.link (usg, u) use_sets (con l use_sets d) (H.own ∙ ap (λ (h : Option ℕ). con_of (con l use_sets) (given h)) e)).home
+pub nth_live : {l : Layout} {m : List ℕ} → SoundStore l m → {u s i : ℕ} → NthIs l slots s i m u → Live (state_of l m) (usg, u)
+nth_live {l} S {u} {s} N = (S.sound.linked.link (usg, u) slots (con l slots s) N.own).live
 
 -- ---- the edits
 

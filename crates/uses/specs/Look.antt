@@ -38,10 +38,6 @@ abbrev pub DefFound : Layout → List ℕ → Slot → ℕ → Result ℕ Refusa
 DefFound l m sl n (Ok d) = DefAt l m sl n d
 DefFound l m sl n (Err e) = Unnamed (state_of l m) (def_kind sl) n × (number_of e ≡ missing_code (def_kind sl))
 
--- r is the number of the definition whose use set is d
-pub record DefNumberIs (l : Layout) (d : ℕ) (m : List ℕ) (r : ℕ) : Type 0 where
-  pub is : r ≡ num (state_of l m) (con l use_sets d).1
-
 -- the use at index i of the list s ended; r is the number of its definition
 pub record Taken (l : Layout) (s i : ℕ) (m m' : List ℕ) (r : ℕ) : Type 0 where
   pub place : ℕ

@@ -1,6 +1,6 @@
 -- The uses of a block at operations of listed blocks move to another block: the listed blocks are marked, and then the uses are passed once.
 -- Assumes nothing: these are definitions.
-use Rattle.std.specs.Prelude.{◌≡◌, Bool, true, false, ◌||◌, List, ℕ, eqb, length, get_or}
+use Rattle.std.specs.Prelude.{◌≡◌, Bool, true, false, ◌||◌, List, ℕ, eqb, get_or}
 use Rattle.std.specs.Prelude as Rust
 use Rattle.std.specs.Prelude.{Some, None}
 use Rattle.edit.specs.Record.{successor, retarget_some}
@@ -25,7 +25,6 @@ pub record MarkedOne (l : Layout) (x : ℕ) (m : List ℕ) (w w' : List Bool) : 
 
 -- those with a listed number are marked
 pub record Marks (l : Layout) (ps m : List ℕ) (w : List Bool) : Type 0 where
-  pub long : length w ≡ 1024
   pub is : (b : ℕ) → Live (state_of l m) (blk, b) → marked w b ≡ member (num (state_of l m) (blk, b)) ps
 
 -- a marked block?

@@ -5,16 +5,18 @@
 ghost use Rattle.std.specs.Prelude.{◌≡◌, ◌<◌, ◌≢◌, false, length, drop, replicate};
 ghost use Rattle.edit.specs.Record.{push_use, insert_use, replace_use, remove_use, pop_use, move_use, operand, successor};
 ghost use Rattle.edit.specs.Kinds.{slot_of};
-ghost use Rattle.edit.specs.Taken.{fields_of, edit_of};
+ghost use Rattle.edit.specs.Taken.{fields_of, edit_by};
+ghost use Rattle.edit.specs.declared.Kind.TheVariants.{ReplaceSome, RetargetSome};
 ghost use Rattle.places.specs.Store.{usg, slots, use_sets, Live};
 ghost use Rattle.context.specs.Layout.{nc_of};
-ghost use Rattle.context.specs.Memory.{con, state_of, Well, SoundStore};
+ghost use Rattle.context.specs.Memory.{con, state_of, SoundStore};
 ghost use Rattle.context.specs.Reading.{list_of};
 ghost use Rattle.context.specs.Steps.{CanMove};
 ghost use Rattle.context.specs.Performed.{Performed};
+ghost use Rattle.uses.specs.declared.TheConstants.{BLOCK_PLACES};
 ghost use Rattle.uses.specs.Some.{Between, HeldIn, PlacedOne, PlacedAll};
 ghost use Rattle.uses.specs.Retarget.{MarkedOne, Marks, Chosen, RetargetedOne, RetargetedAll};
-ghost use Rattle.uses.specs.Look.{SlotFound, DefFound, DefNumberIs, Taken};
+ghost use Rattle.uses.specs.Look.{SlotFound, DefFound, Taken};
 
 use context::{Family, Kind, Layout};
 use edit::{Answer, Refusal, Slot};
@@ -22,16 +24,16 @@ use edit::{Answer, Refusal, Slot};
 // The field from which on kinds 34 and 35 list numbers.
 const FIRST_LISTED: usize = 2;
 
+// The most block places of a store.
+const BLOCK_PLACES: usize = 1024;
+
 // The list of operands or successors of the operation with this number.
 pub fn slot_of(m: &[u32], l: Layout, sl: Slot, number: u32) -> Result<usize, Refusal>
     requires { SoundStore l m.now }
     ensures { SlotFound l m.now (slot_of sl) number result }
 {
     let o = context::look_up(m, l, Kind::Operation, number)?;
-    match sl {
-        Slot::Operand => Ok(2 * o),
-        Slot::Successor => Ok(2 * o + 1),
-    }
+    Ok(context::slots_of(l, sl, o))
 }
 
 // The set of uses of the value or the block with this number.
@@ -39,22 +41,8 @@ pub fn def_of(m: &[u32], l: Layout, sl: Slot, number: u32) -> Result<usize, Refu
     requires { SoundStore l m.now }
     ensures { DefFound l m.now (slot_of sl) number result }
 {
-    match sl {
-        Slot::Operand => context::look_up(m, l, Kind::Value, number),
-        Slot::Successor => Ok(l.values + context::look_up(m, l, Kind::Block, number)?),
-    }
-}
-
-// The number of the definition whose set of uses is `d`.
-pub fn def_number(m: &[u32], l: Layout, d: usize) -> u32
-    requires well { Well l m.now }
-    requires live { Live (state_of l m.now) (con l use_sets d).1 }
-    ensures { DefNumberIs l d m.now result }
-{
-    if d < l.values {
-        return context::number_of(m, l, Kind::Value, d);
-    }
-    context::number_of(m, l, Kind::Block, d - l.values)
+    let p = context::look_up(m, l, context::definition_kind(sl), number)?;
+    Ok(context::use_set_of(l, sl, p))
 }
 
 // Kinds 3 and 8: a use of the definition is put last.
@@ -93,8 +81,7 @@ pub fn take_use(m: &mut [u32], l: Layout, s: usize, i: usize) -> u32
     ensures { Taken l s i m.old m.new result }
 {
     let u = context::nth_of(m, l, Family::Slots, s, i);
-    let d = context::home_of(m, l, Family::UseSets, u).unwrap();
-    let n = def_number(m, l, d);
+    let n = context::value::definition_number(m, l, u);
     context::value::end_use(m, l, u);
     n
 }
@@ -198,7 +185,7 @@ pub fn place_listed(m: &mut [u32], l: Layout, d: usize, e: usize, rec: &[u8])
 // Kind 34: the listed uses of this value become uses of the other.
 pub fn replace_some(m: &mut [u32], l: Layout, rec: &[u8]) -> Answer
     requires { SoundStore l m.old }
-    ensures { Performed l (edit_of 34 (fields_of rec.now)) m.old m.new result }
+    ensures { Performed l (edit_by ReplaceSome (fields_of rec.now)) m.old m.new result }
 {
     let d = def_of(m, l, Slot::Operand, edit::field(rec, 0))?;
     let e = def_of(m, l, Slot::Operand, edit::field(rec, 1))?;
@@ -207,9 +194,8 @@ pub fn replace_some(m: &mut [u32], l: Layout, rec: &[u8]) -> Answer
 }
 
 // The block with this number, if one lives, is marked.
-fn mark_one(m: &[u32], l: Layout, number: u32, marks: &mut [bool])
+fn mark_one(m: &[u32], l: Layout, number: u32, marks: &mut [bool; BLOCK_PLACES])
     requires sound_store { SoundStore l m.now }
-    requires marks_len { length marks.old ≡ 1024 }
     ensures { MarkedOne l number m.now marks.old marks.new }
 {
     if let Some(b) = context::find(m, l, Kind::Block, number) {
@@ -218,9 +204,9 @@ fn mark_one(m: &[u32], l: Layout, number: u32, marks: &mut [bool])
 }
 
 // The listed blocks are marked.
-fn mark_listed(m: &[u32], l: Layout, rec: &[u8], marks: &mut [bool])
+fn mark_listed(m: &[u32], l: Layout, rec: &[u8], marks: &mut [bool; BLOCK_PLACES])
     requires sound_store { SoundStore l m.now }
-    requires marks_value { marks.old ≡ replicate 1024 false }
+    requires unmarked { marks.old ≡ replicate BLOCK_PLACES false }
     ensures { Marks l (drop 2 (fields_of rec.now)) m.now marks.new }
 {
     for i in FIRST_LISTED..edit::field_count(rec) {
@@ -229,21 +215,19 @@ fn mark_listed(m: &[u32], l: Layout, rec: &[u8], marks: &mut [bool])
 }
 
 // Whether the use stands at an operation of a marked block.
-fn is_chosen(m: &[u32], l: Layout, u: usize, marks: &[bool]) -> bool
+fn is_chosen(m: &[u32], l: Layout, u: usize, marks: &[bool; BLOCK_PLACES]) -> bool
     requires sound_store { SoundStore l m.now }
     requires live { Live (state_of l m.now) (usg, u) }
-    requires marks_len { length marks.now ≡ 1024 }
     ensures { Chosen l u marks.now m.now result }
 {
     context::value::block_of(m, l, u).is_some_and(|b| marks[b])
 }
 
 // The use moves to the set `e`, if it stands at an operation of a marked block.
-fn retarget_one(m: &mut [u32], l: Layout, e: usize, u: usize, marks: &[bool])
+fn retarget_one(m: &mut [u32], l: Layout, e: usize, u: usize, marks: &[bool; BLOCK_PLACES])
     requires sound_store { SoundStore l m.old }
     requires e_bound { e < nc_of l use_sets }
     requires can_move { CanMove (state_of l m.old) u (con l use_sets e) }
-    requires marks_len { length marks.now ≡ 1024 }
     ensures { RetargetedOne l e u marks.now m.old m.new }
 {
     if is_chosen(m, l, u, marks) {
@@ -252,14 +236,14 @@ fn retarget_one(m: &mut [u32], l: Layout, e: usize, u: usize, marks: &[bool])
 }
 
 // The uses in the set `d` at operations of listed blocks move to the set `e`.
-// Each listed number is looked up once; a mark for each of the 1,024 block places that a store may have tells which blocks are listed.
+// Each listed number is looked up once; a mark for each block place that a store may have tells which blocks are listed.
 fn retarget_listed(m: &mut [u32], l: Layout, d: usize, e: usize, rec: &[u8])
     requires sound_store { SoundStore l m.old }
     requires between { Between l m.old successor d e }
     requires d_nonzero { d ≢ e }
     ensures { RetargetedAll l d e (drop 2 (fields_of rec.now)) m.old m.new }
 {
-    let mut marks = [false; 1024];
+    let mut marks = [false; BLOCK_PLACES];
     mark_listed(m, l, rec, &mut marks);
     let mut next = context::first_of(m, l, Family::UseSets, d);
     while let Some(u) = next {
@@ -271,11 +255,12 @@ fn retarget_listed(m: &mut [u32], l: Layout, d: usize, e: usize, rec: &[u8])
 // Kind 35: the uses of this block at operations of listed blocks become uses of the other.
 pub fn retarget_some(m: &mut [u32], l: Layout, rec: &[u8]) -> Answer
     requires { SoundStore l m.old }
-    ensures { Performed l (edit_of 35 (fields_of rec.now)) m.old m.new result }
+    ensures { Performed l (edit_by RetargetSome (fields_of rec.now)) m.old m.new result }
 {
-    let d = def_of(m, l, Slot::Successor, edit::field(rec, 0))?;
+    let b = context::look_up(m, l, Kind::Block, edit::field(rec, 0))?;
+    let d = context::use_set_of(l, Slot::Successor, b);
     let e = def_of(m, l, Slot::Successor, edit::field(rec, 1))?;
-    if context::basic_block::stray_user(m, l, d - l.values) {
+    if context::basic_block::stray_user(m, l, b) {
         return Err(Refusal::StrayUser);
     }
     if d != e {

@@ -1,52 +1,20 @@
--- What the look-ups find, and whether a value is used. Assumes nothing.
+-- The value at an index, and whether it is used. Assumes nothing.
 use mathlib.Core.Path.{◌≡◌, refl, sym, ap, ◌∙◌}
 use mathlib.Core.Bool.{true, false}
 use mathlib.Core.List.{List, [], ◌∷◌}
-use Prim.Native.Nat.{ℕ, ◌+◌, ◌<◌}
+use Prim.Native.Nat.{ℕ, ◌<◌}
 use native.Mathlib.Omega.{arith}
 use lib.ListN.{length}
 use Rattle.std.proofs.Common.{Option, Ok, Err, is_some}
-use Rattle.edit.specs.declared.Member.{Member as Which}
-use Rattle.edit.specs.declared.Member.TheVariants.{Operation, Block}
 use Rattle.edit.specs.declared.Refusal.TheVariants.{Used}
-use Rattle.edit.specs.Kinds.{member_of}
-use Rattle.places.specs.Store.{Kind, op, blk, val, results, arguments, value_uses, vals, use_sets, Thing, Con, State, Live}
-use Rattle.places.specs.View.{num}
-use Rattle.places.specs.Roles.{member_kind}
+use Rattle.places.specs.Store.{val, value_uses, vals, use_sets, Thing, Con, State, Live}
 use Rattle.places.specs.Parts.{rows_of}
 use Rattle.places.proofs.Rows.{mine}
 use Rattle.context.specs.declared.Layout.{Layout}
 use Rattle.context.specs.Memory.{con, state_of, SoundStore, FirstIs, first_place}
 use Rattle.context.specs.Reading.{NthIs}
 use Rattle.context.specs.Steps.{Unused, EndedValue}
-use Rattle.context.proofs.Places.{place<}
-use Rattle.values.specs.Look.{ValuesAt, TakenValue}
-
--- ---- the list of an operation or a block
-
-module _ {l : Layout} {m : List ℕ} (S : SoundStore l m) (n : ℕ) where
-  abbrev P : State
-  P = state_of l m
-
-  module _ {w : Which} (k : Kind) (is : k ≡ member_kind (member_of w)) where
-    pub results_at : w ≡ Operation → (o : ℕ) → Live P (k, o) → num P (k, o) ≡ n → ValuesAt l m (member_of w) n o
-    unfolding rows_of
-    results_at z o h e =
-        let a : k ≡ op = is ∙ ap (λ (w : Which). member_kind (member_of w)) z in
-        rw z (record { place = o; live = rw a at h; number = rw a at e; row = mine l.values l.ops results o (place< S (op, o) (rw a at h)); inside = omega (arith, place< S (op, o) (rw a at h)) })
-
-    pub block< : w ≡ Block → (b : ℕ) → Live P (k, b) → b < l.blocks
-    block< z b h =
-        let a : k ≡ blk = is ∙ ap (λ (w : Which). member_kind (member_of w)) z in
-        place< S (blk, b) (rw a at h)
-
-    pub arguments_at : w ≡ Block → (b : ℕ) → Live P (k, b) → num P (k, b) ≡ n → ValuesAt l m (member_of w) n (l.ops + b)
-    unfolding rows_of
-    arguments_at z b h e =
-        let a : k ≡ blk = is ∙ ap (λ (w : Which). member_kind (member_of w)) z in
-        rw z (record { place = b; live = rw a at h; number = rw a at e; row = mine l.values l.ops arguments b tt; inside = omega (arith, place< S (blk, b) (rw a at h)) })
-
--- ---- the value at an index, and whether it is used
+use Rattle.values.specs.Look.{TakenValue}
 
 first_none : (xs : List Thing) → is_some (first_place xs) ≡ false → xs ≡ []
 first_none [] e = refl

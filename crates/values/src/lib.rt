@@ -21,10 +21,7 @@ pub fn values_of(m: &[u32], l: Layout, w: Member, number: u32) -> Result<usize, 
     ensures { ValuesFound l m.now (member_of w) number result }
 {
     let p = context::look_up(m, l, Kind::from(w), number)?;
-    match w {
-        Member::Operation => Ok(p),
-        Member::Block => Ok(l.ops + p),
-    }
+    Ok(context::values_of(l, w, p))
 }
 
 // Kinds 13 and 17: a value of the type is put last.

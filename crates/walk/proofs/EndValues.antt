@@ -4,7 +4,7 @@ use mathlib.Core.Logic.{⊎_elim}
 use mathlib.Core.List.{List, [], ◌∷◌}
 use mathlib.Core.Option.{some}
 use native.Mathlib.Omega.{arith}
-use Prim.Native.Nat.{ℕ, ◌+◌, ◌<◌, ◌≤◌}
+use Prim.Native.Nat.{ℕ, ◌<◌, ◌≤◌}
 use lib.ListN.{length}
 use Rattle.seqs.specs.Seqs.{count, In}
 use Rattle.places.specs.Store.{op, blk, reg, val, Role, results, arguments, value_uses, Fam, vals, fam, node_of, Thing, Thing-dec, Con, State}
@@ -19,14 +19,12 @@ use Rattle.places.proofs.EraseTurn.{value_bare}
 use Rattle.places.proofs.Prims.{end_in}
 use Rattle.context.specs.declared.Layout.{Layout}
 use Rattle.std.specs.Prelude.{Option, None, Some}
-use Rattle.context.specs.Layout.{nc_of}
-use Rattle.context.specs.Memory.{part, con, state_of, SoundStore, FirstIs}
+use Rattle.context.specs.Memory.{part, con, ListIs, state_of, SoundStore, FirstIs}
 use Rattle.context.specs.Steps.{EndedValue, Unused}
 use Rattle.context.proofs.Families.{con_back}
-use Rattle.context.proofs.Places.{place<}
+use Rattle.context.proofs.Numbers.{list_there}
 use Rattle.walk.specs.Erase.{CanErase, CanEndValues, EndedValues, OwnEnded}
 use Rattle.context.proofs.Cursor.{row, At, Here, first_at, here, at_end, single}
-use Rattle.walk.proofs.Strays.{con_results, con_arguments}
 use Rattle.walk.proofs.EraseLaws.{to_free, region_none}
 
 -- what is left to do is the whole
@@ -121,36 +119,33 @@ module _ {l : Layout} {c : ℕ} {m₀ m : List ℕ} {k : Option ℕ} (E : Ending
 -- ---- the values of a thing
 
 module _ {l : Layout} {m : List ℕ} where
-  by_row : (x : Thing) (c : ℕ) (r : Role) → kind_code x.0 ≤ 2 → CanErase l x m → c < nc_of l vals → con l vals c ≡ (r, x) → place_values_at (state_of l m) x ≡ (state_of l m).list x r → CanEndValues l c m
-  by_row x c r kx C b e q =
-      record {
-        store = C.store;
-        row = b;
-        bare = λ v i q'. value_bare C.store.sound x kx (to_free C.unused) v (omega (arith, i, ap (count Thing-dec v) q, ap (λ (d : Con). count Thing-dec v ((state_of l m).list d.1 d.0)) e)) q';
-      }
+  module _ (x : Thing) {c : ℕ} {r : Role} (K : ListIs l vals (r, x) c) (q : place_values_at (state_of l m) x ≡ (state_of l m).list x r) where
+    by_row : kind_code x.0 ≤ 2 → CanErase l x m → CanEndValues l c m
+    by_row kx C =
+        record {
+          store = C.store;
+          row = K.inside;
+          bare = λ v i q'. value_bare C.store.sound x kx (to_free C.unused) v (omega (arith, i, ap (count Thing-dec v) q, ap (count Thing-dec v) (list_there K m))) q';
+        }
 
-  own_row : (x : Thing) (c : ℕ) (r : Role) {m' : List ℕ} → con l vals c ≡ (r, x) → place_values_at (state_of l m) x ≡ (state_of l m).list x r → EndedValues l c m m' → OwnEnded l x m m'
-  own_row x c r e q E = record { store = E.store; rest = E.rest; state = E.state ∙ ap (λ (t : List Thing). cut_all t (state_of l m)) (ap (λ (d : Con). (state_of l m).list d.1 d.0) e ∙ sym q) }
+    own_row : {m' : List ℕ} → EndedValues l c m m' → OwnEnded l x m m'
+    own_row E = record { store = E.store; rest = E.rest; state = E.state ∙ ap (λ (t : List Thing). cut_all t (state_of l m)) (list_there K m ∙ sym q) }
 
-  module _ (p : ℕ) (C : CanErase l (op, p) m) where
-    pub can_results : CanEndValues l p m
+  module _ (p : ℕ) (C : CanErase l (op, p) m) {c : ℕ} (K : ListIs l vals (results, (op, p)) c) where
+    pub can_results : CanEndValues l c m
     unfolding kind_code
-    can_results =
-        let b : p < l.ops = place< C.store (op, p) C.live in
-        by_row (op, p) p results (omega arith) C (omega (arith, b)) (con_results l p b) (values_op C.store.sound.linked p)
+    can_results = by_row (op, p) K (values_op C.store.sound.linked p) (omega arith) C
 
-    pub own_results : {m' : List ℕ} → EndedValues l p m m' → OwnEnded l (op, p) m m'
-    own_results E = own_row (op, p) p results (con_results l p (place< C.store (op, p) C.live)) (values_op C.store.sound.linked p) E
+    pub own_results : {m' : List ℕ} → EndedValues l c m m' → OwnEnded l (op, p) m m'
+    own_results E = own_row (op, p) K (values_op C.store.sound.linked p) E
 
-  module _ (p : ℕ) (C : CanErase l (blk, p) m) where
-    pub can_arguments : CanEndValues l (l.ops + p) m
+  module _ (p : ℕ) (C : CanErase l (blk, p) m) {c : ℕ} (K : ListIs l vals (arguments, (blk, p)) c) where
+    pub can_arguments : CanEndValues l c m
     unfolding kind_code
-    can_arguments =
-        let b : p < l.blocks = place< C.store (blk, p) C.live in
-        by_row (blk, p) (l.ops + p) arguments (omega arith) C (omega (arith, b)) (con_arguments l p) (values_blk C.store.sound.linked p)
+    can_arguments = by_row (blk, p) K (values_blk C.store.sound.linked p) (omega arith) C
 
-    pub own_arguments : {m' : List ℕ} → EndedValues l (l.ops + p) m m' → OwnEnded l (blk, p) m m'
-    own_arguments E = own_row (blk, p) (l.ops + p) arguments (con_arguments l p) (values_blk C.store.sound.linked p) E
+    pub own_arguments : {m' : List ℕ} → EndedValues l c m m' → OwnEnded l (blk, p) m m'
+    own_arguments E = own_row (blk, p) K (values_blk C.store.sound.linked p) E
 
   pub own_nothing : (p : ℕ) → CanErase l (reg, p) m → OwnEnded l (reg, p) m m
   own_nothing p C = record { store = C.store; rest = refl; state = sym (ap (λ (t : List Thing). cut_all t (state_of l m)) (region_none C.store.sound p) ∙ cut_nothing (state_of l m)) }

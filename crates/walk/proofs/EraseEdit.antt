@@ -17,7 +17,7 @@ use Rattle.places.specs.Walk.{pick, gather, place_cut_by, cut_all, among, kids, 
 use Rattle.edit.specs.Record.{Edit, erase_operation, erase_block, erase_region}
 use Rattle.std.specs.Prelude.{Ok, Err}
 use Rattle.edit.specs.Answer.{Answer, found}
-use Rattle.edit.specs.Kinds.{number_of, member_of}
+use Rattle.edit.specs.Kinds.{number_of, member_of, nested_of}
 use Rattle.edit.specs.declared.Member.{Member}
 use Rattle.edit.specs.declared.Nested.{Nested}
 use Rattle.edit.specs.declared.Refusal.{Refusal}
@@ -39,8 +39,9 @@ use Rattle.places.proofs.EraseTurn.{drop_free}
 use Rattle.places.proofs.TopRefusals.{refuse_op, refuse_block, refuse_region, refuse_index}
 use Rattle.places.proofs.Meaning.{erase_op_meaning, erase_op_reply, erase_block_meaning, erase_block_reply, erase_region_meaning, erase_region_reply}
 use Rattle.context.specs.declared.Layout.{Layout}
+use Rattle.context.specs.declared.Thing as nest
 use Rattle.context.specs.Memory.{state_of, SoundStore, LengthIs}
-use Rattle.context.specs.Nest.{nested_kind}
+use Rattle.context.specs.Nest.{nested_kind, thing_at}
 use Rattle.context.specs.Reading.{NthIs}
 use Rattle.context.specs.Performed.{Performed}
 use Rattle.context.proofs.Performing.{refuses, accepts}
@@ -48,7 +49,7 @@ use Rattle.edit.proofs.Numbers.{number_of-positive}
 use Rattle.walk.specs.declared.Tally.{Tally}
 use Rattle.walk.specs.Drop.{Tallied}
 use Rattle.walk.specs.Tests.{within, erase_code, Tested, Testable}
-use Rattle.walk.specs.Erase.{CanErase, Erased, EraseDone, EraseAnswer, erase_by}
+use Rattle.walk.specs.Erase.{CanErase, Erased, own_reach, EraseDone, EraseAnswer, erase_by}
 use Rattle.walk.proofs.Nested.{operations_are}
 use Rattle.walk.proofs.Asked.{passes, no_thing}
 use Rattle.walk.proofs.EraseLaws.{from_free}
@@ -136,7 +137,7 @@ module _ {l : Layout} {m : List ℕ} (S : SoundStore l m) where
   Q = state_of l m
 
   -- 39
-  pub did_erase_op : (m' : List ℕ) (r : Answer) (o n : ℕ) → Live Q (op, o) → num Q (op, o) ≡ n → EraseAnswer l (op, o) 1 m m' r → Performed l (erase_operation n) m m' r
+  did_erase_op : (m' : List ℕ) (r : Answer) (o n : ℕ) → Live Q (op, o) → num Q (op, o) ≡ n → EraseAnswer l (op, o) 1 m m' r → Performed l (erase_operation n) m m' r
   unfolding meaning named R.thing_named kind_code
   did_erase_op m' r o n v q D =
       subst (λ (i : ℕ). Performed l (erase_operation i) m m' r) q
@@ -146,7 +147,7 @@ module _ {l : Layout} {m : List ℕ} (S : SoundStore l m) where
       (λ z. erase_op_reply S.sound D.marks o v D.right z))
 
   -- 40
-  pub did_erase_block : (m' : List ℕ) (r : Answer) (b n : ℕ) → Live Q (blk, b) → num Q (blk, b) ≡ n → EraseAnswer l (blk, b) 2 m m' r → Performed l (erase_block n) m m' r
+  did_erase_block : (m' : List ℕ) (r : Answer) (b n : ℕ) → Live Q (blk, b) → num Q (blk, b) ≡ n → EraseAnswer l (blk, b) 2 m m' r → Performed l (erase_block n) m m' r
   unfolding meaning named R.thing_named kind_code
   did_erase_block m' r b n v q D =
       subst (λ (i : ℕ). Performed l (erase_block i) m m' r) q
@@ -162,11 +163,20 @@ module _ {l : Layout} {m : List ℕ} (S : SoundStore l m) where
   none_to_erase Member.Block n q u = no_thing S (erase_block n) Nested.Block n q u refl
 
   -- what the look-up found
-  pub operation_at : {w : Member} {K : Kind} (n p : ℕ) → K ≡ member_kind (member_of w) → w ≡ Member.Operation → Live Q (K, p) × (num Q (K, p) ≡ n) → Live Q (op, p) × (num Q (op, p) ≡ n)
-  operation_at n p q e F = subst (λ (J : Kind). Live Q (J, p) × (num Q (J, p) ≡ n)) (q ∙ ap (λ (v : Member). member_kind (member_of v)) e) F
+  module _ (w : Member) (n p : ℕ) {K : Kind} {k : Nested} (e : K ≡ member_kind (member_of w)) (i : k ≡ nested_of w) (F : Live Q (K, p) × (num Q (K, p) ≡ n)) where
+    pub member_there : Live Q (nested_kind k, p) × (num Q (nested_kind k, p) ≡ n)
+    member_there = subst (λ (J : Kind). Live Q (J, p) × (num Q (J, p) ≡ n)) (e ∙ sort w ∙ ap nested_kind (sym i)) F
+      where
+        sort : (v : Member) → member_kind (member_of v) ≡ nested_kind (nested_of v)
+        sort Member.Operation = refl
+        sort Member.Block = refl
 
-  pub block_at : {w : Member} {K : Kind} (n p : ℕ) → K ≡ member_kind (member_of w) → w ≡ Member.Block → Live Q (K, p) × (num Q (K, p) ≡ n) → Live Q (blk, p) × (num Q (blk, p) ≡ n)
-  block_at n p q e F = subst (λ (J : Kind). Live Q (J, p) × (num Q (J, p) ≡ n)) (q ∙ ap (λ (v : Member). member_kind (member_of v)) e) F
+    pub did_erase : (m' : List ℕ) (r : Answer) → EraseAnswer l (nested_kind k, p) (own_reach k) m m' r → Performed l (erase_by (member_of w) n) m m' r
+    did_erase m' r D = go w (subst (λ (j : Nested). (Live Q (nested_kind j, p) × (num Q (nested_kind j, p) ≡ n)) × EraseAnswer l (nested_kind j, p) (own_reach j) m m' r) i (member_there, D))
+      where
+        go : (v : Member) → (Live Q (nested_kind (nested_of v), p) × (num Q (nested_kind (nested_of v), p) ≡ n)) × EraseAnswer l (nested_kind (nested_of v), p) (own_reach (nested_of v)) m m' r → Performed l (erase_by (member_of v) n) m m' r
+        go Member.Operation h = did_erase_op m' r p n h.0.0 h.0.1 h.1
+        go Member.Block h = did_erase_block m' r p n h.0.0 h.0.1 h.1
 
   -- 41
   module _ (o n i : ℕ) (v : Live Q (op, o)) (q : num Q (op, o) ≡ n) where
@@ -227,12 +237,12 @@ refused_answer {e = e} T =
       done = λ z. absurd (omega (arith, number_of-positive e, T.code, z));
     }
 
-module _ {l : Layout} {m s s' : List ℕ} (k : Nested) (p : ℕ) {n : ℕ} (C : Testable l k p m s) (T : Tested l (nested_kind k, p) n m s s' (Ok tt)) where
+module _ {l : Layout} {m s s' : List ℕ} {x : nest.Thing} {n : ℕ} (C : Testable l x m s) (T : Tested l (thing_at x) n m s s' (Ok tt)) where
   abbrev A : State
   A = state_of l m
 
   abbrev y : Thing
-  y = (nested_kind k, p)
+  y = thing_at x
 
   passed : ◌≡◌ {A = ℕ} 0 (erase_code A T.marks n y)
   passed = T.code
@@ -244,7 +254,7 @@ module _ {l : Layout} {m s s' : List ℕ} (k : Nested) (p : ℕ) {n : ℕ} (C : 
   can_erase D =
       record {
         store = D.store;
-        live = subst (λ (Q : State). Live Q y) (sym D.state) (lives_on C.store.sound y (nested≤ k) C.live);
+        live = subst (λ (Q : State). Live Q y) (sym D.state) (lives_on C.store.sound y (nested≤ x.kind) C.live);
         unused = from_free (subst (λ (Q : State). Free Q y) (sym D.state) (drop_free C.store.sound y T.marks T.right none_out));
       }
 

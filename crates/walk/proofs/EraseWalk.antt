@@ -17,7 +17,7 @@ use Rattle.context.specs.declared.Layout.{Layout}
 use Rattle.context.specs.Layout.{cap_of, nc_of}
 use Rattle.context.specs.Memory.{part, state_of, SoundStore, first_place, FirstIs}
 use Rattle.context.specs.Nest.{nested_kind, inner_fam}
-use Rattle.context.specs.Reading.{NextIs}
+use Rattle.context.specs.Reading.{NodesAre}
 use Rattle.context.specs.Steps.{CanEnd, Ended}
 use Rattle.context.proofs.Places.{place<}
 use Rattle.walk.specs.Erase.{CanErase, Erased, OwnEnded, inner_kind}
@@ -59,8 +59,8 @@ erase_as {l} {m} {k} {j} {p} e C = subst (λ (i : Nested). CanErase l (nested_ki
 pub first_as : {l : Layout} {F G : Fam} {p : ℕ} {m : List ℕ} {r : Option ℕ} → F ≡ G → FirstIs l F p m r → FirstIs l G p m r
 first_as {l} {F} {G} {p} {m} {r} e I = subst (λ (H : Fam). FirstIs l H p m r) e I
 
-pub next_as : {l : Layout} {F G : Fam} {p : ℕ} {m : List ℕ} {r : Option ℕ} → F ≡ G → NextIs l F p m r → NextIs l G p m r
-next_as {l} {F} {G} {p} {m} {r} e I = subst (λ (H : Fam). NextIs l H p m r) e I
+pub nodes_as : {l : Layout} {F G : Fam} {p : ℕ} {m r : List ℕ} → F ≡ G → NodesAre l F p m r → NodesAre l G p m r
+nodes_as {l} {F} {G} {p} {m} {r} e I = subst (λ (H : Fam). NodesAre l H p m r) e I
 
 -- ---- the loop, begun at m₀
 
@@ -126,10 +126,7 @@ module _ {l : Layout} {m₀ m : List ℕ} (k : Nested) (p : ℕ) (G : Going l (n
           }
 
     -- the first that is left
-    module _ {q : ℕ} {j : Nested} (h : c ≡ Some q) (i : j ≡ inner_kind k) where
-      abbrev y : Thing
-      y = (nested_kind j, q)
-
+    module _ {q : ℕ} {y : Thing} (h : c ≡ Some q) (i : y ≡ (nested_kind (inner_kind k), q)) where
       record Next (t : List Thing) : Type 0 where
         kid : Thing
         later : List Thing
@@ -156,7 +153,7 @@ module _ {l : Layout} {m₀ m : List ℕ} (k : Nested) (p : ℕ) (G : Going l (n
       now_kids = reads G.going w r parts
 
       kid : w ≡ y
-      kid = kid_is (inner l k p) m G.store.sound.linked [] w r now_kids ∙ (λ d. ((inner_node k ∙ ap nested_kind (sym i)) d, sym next.at d))
+      kid = kid_is (inner l k p) m G.store.sound.linked [] w r now_kids ∙ (λ d. (inner_node k d, sym next.at d)) ∙ sym i
 
       pub child_can : CanErase l y m
       child_can =

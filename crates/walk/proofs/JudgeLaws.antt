@@ -5,12 +5,12 @@ use mathlib.Core.Bool.{Bool, true, false, ◌&&◌, ◌||◌}
 use mathlib.Core.List.{List, [], ◌∷◌, ◌++◌}
 use mathlib.Core.Option.{Option, none, some}
 use native.Mathlib.Omega.{arith}
-use Prim.Native.Nat.{ℕ, ◌+◌, ◌*◌, ◌<◌, ◌≤◌}
+use Prim.Native.Nat.{ℕ, ◌≤◌}
 use Rattle.std.specs.Prelude as Rust
 use Rattle.std.specs.Prelude.{None, Some, Ok, Err}
 use Rattle.std.specs.Option.{ok_or, option_eq}
 use Rattle.seqs.specs.Seqs.{count, In, seq_last_of}
-use Rattle.places.specs.Store.{op, blk, reg, usg, successors, block_uses, regions, ops, Fam, slots, use_sets, regs, ops_in, blocks_in, Thing, Thing-dec, Con, Con-dec, State, Live, Link, outer, up}
+use Rattle.places.specs.Store.{op, blk, reg, usg, block_uses, regions, ops, Fam, use_sets, regs, ops_in, blocks_in, Thing, Thing-dec, Con, Con-dec, State, Live, Link, outer, up}
 use Rattle.places.specs.Parts.{node_in, rows_of, con_of}
 use Rattle.places.specs.View.{num}
 use Rattle.rules.specs.Table.{some_and}
@@ -23,16 +23,13 @@ use Rattle.places.proofs.Steps.{thing_eq, listed, once}
 use Rattle.places.proofs.Nest.{is_nest, fam_role, role_is}
 use Rattle.places.proofs.VerdictWalk.{verdict_eq}
 use Rattle.context.specs.declared.Layout.{Layout}
-use Rattle.context.specs.Layout.{nc_of}
-use Rattle.context.specs.Memory.{con, state_of, given, SoundStore, first_place, HomeIs}
+use Rattle.context.specs.Memory.{con, ListIs, state_of, given, SoundStore, first_place, HomeIs}
 use Rattle.context.specs.Reading.{list_of, last_place, NextIs, LastIs, NumberIs, block_by, BlockOf}
-use Rattle.context.proofs.Families.{con_back}
-use Rattle.context.proofs.Places.{place<}
+use Rattle.context.proofs.Numbers.{same_row}
 use Rattle.walk.specs.Judge.{on_op, alone, user_leads}
-use Rattle.context.proofs.Users.{con_block_uses, around_none, around_some}
-use Rattle.context.proofs.Cursor.{row, single}
+use Rattle.context.proofs.Users.{around_none, around_some}
+use Rattle.context.proofs.Cursor.{single}
 use Rattle.walk.proofs.Nested.{same_place, none_some}
-use Rattle.walk.proofs.OwnUses.{con_successors}
 
 -- ---- booleans
 
@@ -105,15 +102,23 @@ split_in x (y ∷ l) i =
 
 -- ---- where things stand
 
--- the list k of the use sets is the block's exactly if its number says so
-pub held_at : (l : Layout) (b k : ℕ) → k ≡ l.values + b → is_held_by (some (con l use_sets k)) (block_uses, (blk, b)) ≡ true
-held_at l b k e = as_yes (Con-dec (con l use_sets k) (block_uses, (blk, b))) (ap (con l use_sets) e ∙ con_block_uses l b)
+-- the list k of the use sets is the block's exactly if it has the number d of the block's
+module _ {l : Layout} {b d : ℕ} (K : ListIs l use_sets (block_uses, (blk, b)) d) where
+  held_at : (k : ℕ) → k ≡ d → is_held_by (some (con l use_sets k)) (block_uses, (blk, b)) ≡ true
+  held_at k e = as_yes (Con-dec (con l use_sets k) (block_uses, (blk, b))) (ap (con l use_sets) e ∙ K.row)
 
-pub held_off : (l : Layout) (b k : ℕ) → k ≢ l.values + b → is_held_by (some (con l use_sets k)) (block_uses, (blk, b)) ≡ false
-unfolding rows_of
-held_off l b k n =
-    as_no (Con-dec (con l use_sets k) (block_uses, (blk, b)))
-    (λ e. n (sym (con_back l.values l.ops use_sets k).number ∙ ap (λ (c : Con). (rows_of l.values l.ops).row c.0 c.1.1) e))
+  held_off : (k : ℕ) → k ≢ d → is_held_by (some (con l use_sets k)) (block_uses, (blk, b)) ≡ false
+  held_off k n = as_no (Con-dec (con l use_sets k) (block_uses, (blk, b))) (λ e. n (same_row l use_sets k d (e ∙ sym K.row)))
+
+  -- by the list that it stands in
+  pub held_by : (h : Rust.Option ℕ) (o : Option Con) → o ≡ con_of (con l use_sets) (given h) → option_eq Rust.nat_eq h (Some d) ≡ is_held_by o (block_uses, (blk, b))
+  held_by None o e = sym (ap (λ (c : Option Con). is_held_by c (block_uses, (blk, b))) e)
+  held_by (Some k) o e =
+      go (Rust.nat_eq k d) refl ∙ sym (ap (λ (c : Option Con). is_held_by c (block_uses, (blk, b))) e)
+    where
+      go : (t : Bool) → Rust.nat_eq k d ≡ t → Rust.nat_eq k d ≡ is_held_by (some (con l use_sets k)) (block_uses, (blk, b))
+      go true q = q ∙ sym (held_at k (omega (arith, eqb-true k d q)))
+      go false q = q ∙ sym (held_off k (λ w. eqb-false k d q w))
 
 -- an option that a refusal stands for
 pub was_some : {A E : Type 0} {r : Rust.Option A} (e : E) {n : A} → ok_or r e ≡ Ok n → r ≡ Some n
@@ -123,16 +128,6 @@ was_some {r = Some x} e h = cc
 pub was_none : {A E : Type 0} {r : Rust.Option A} (e : E) {x : E} → ok_or r e ≡ Err x → (r ≡ None) × (x ≡ e)
 was_none {r = None} e h = (refl, cc)
 was_none {r = Some x} e h = let z : ◌≡◌ {A = ℕ} 0 1 = cc in absurd (omega arith)
-
--- by the list that it stands in
-pub held_by : (l : Layout) (b : ℕ) (h : Rust.Option ℕ) (o : Option Con) → o ≡ con_of (con l use_sets) (given h) → option_eq Rust.nat_eq h (Some (l.values + b)) ≡ is_held_by o (block_uses, (blk, b))
-held_by l b None o e = sym (ap (λ (c : Option Con). is_held_by c (block_uses, (blk, b))) e)
-held_by l b (Some k) o e =
-    go (Rust.nat_eq k (l.values + b)) refl ∙ sym (ap (λ (c : Option Con). is_held_by c (block_uses, (blk, b))) e)
-  where
-    go : (t : Bool) → Rust.nat_eq k (l.values + b) ≡ t → Rust.nat_eq k (l.values + b) ≡ is_held_by (some (con l use_sets k)) (block_uses, (blk, b))
-    go true q = q ∙ sym (held_at l b k (omega (arith, eqb-true k (l.values + b) q)))
-    go false q = q ∙ sym (held_off l b k (λ w. eqb-false k (l.values + b) q w))
 
 -- what a test of an option's place gave: r is q where there is none, and else what the test gave
 pub tested : (k : Rust.Option ℕ) {r q : Bool} {Post : ℕ → Type 0} → Rust.MatchOption k (r ≡ false) Post → (k ≡ None → false ≡ q) → ((p : ℕ) → k ≡ Some p → Post p → r ≡ q) → r ≡ q
@@ -216,14 +211,6 @@ module _ {l : Layout} {m : List ℕ} (S : SoundStore l m) where
   pub leads_last : (b p : ℕ) {k : Rust.Option ℕ} {o : ℕ} → LastIs l ops_in p m k → k ≡ Some o → (terminates P (op, o) && place_names_block P (blk, b) (op, o)) ≡ place_leads_to P (blk, b) (blk, p)
   unfolding place_leads_to some_and
   leads_last b p L z = ap (λ (q : Option Thing). some_and q (λ o. terminates P o && place_names_block P (blk, b) o)) (sym (last_some p L z).0)
-
-  -- ---- the lists that are searched
-
-  pub targets : (o : ℕ) → row l slots (2 * o + 1) m ≡ P.list (op, o) successors
-  targets o = ap (λ (c : Con). P.list c.1 c.0) (con_successors l o)
-
-  pub slot_row : (o : ℕ) → Live P (op, o) → 2 * o + 1 < nc_of l slots
-  slot_row o v = omega (arith, place< S (op, o) v)
 
   -- ---- the end of a block
 

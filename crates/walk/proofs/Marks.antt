@@ -16,15 +16,16 @@ use Rattle.places.proofs.Cut.{pick_0, pick_1, zero_or}
 use Rattle.places.proofs.Nest.{kind_code}
 use Rattle.places.proofs.DropTurn.{append_nil, gather_append}
 use Rattle.context.specs.declared.Layout.{Layout}
-use Rattle.std.specs.Prelude.{Option, None, Some, Result}
+use Rattle.context.specs.declared.Thing as nest
+use Rattle.std.specs.Prelude.{Result}
 use Rattle.edit.specs.Kinds.{code_of}
 use Rattle.edit.specs.declared.Nested.{Nested}
 use Rattle.edit.specs.declared.Nested.TheVariants.{Operation, Block, Region}
 use Rattle.edit.specs.declared.Refusal.{Refusal}
-use Rattle.context.specs.Memory.{state_of, FirstIs}
-use Rattle.context.specs.Nest.{nested_kind, inner_fam}
-use Rattle.context.specs.Reading.{NextIs}
-use Rattle.context.proofs.Cursor.{At, first_at, at_end, next_at}
+use Rattle.context.specs.Memory.{state_of}
+use Rattle.context.specs.Nest.{nested_kind, inner_fam, thing_at}
+use Rattle.context.specs.Reading.{NodesAre}
+use Rattle.context.proofs.Rest.{Rest, rest_all, rest_on}
 use Rattle.walk.specs.Erase.{inner_kind}
 use Rattle.walk.specs.Tests.{within, alone, DepthIs, marks_in, Given, Testable, Zeros, erase_code, Tested}
 use Rattle.walk.proofs.Strays.{nest_row, within_step, within_none, child_is}
@@ -69,55 +70,52 @@ given_nowhere P n x v s e = subst (λ (zs : List Thing). Given zs v s s) (sym (w
 
 -- ---- the loop over what lies directly in the thing, begun with the scratch s₀
 
-pub record Marking (l : Layout) (k : Nested) (p n v : ℕ) (m s₀ s : List ℕ) (c : Option ℕ) : Type 0 where
-  pub at : At l (inner_fam k) p m c
-  pub given : Given (gather (within (state_of l m) (n - 1)) at.done) v s₀ s
+abbrev deeper : Layout → List ℕ → ℕ → Thing → List Thing
+deeper l m n = within (state_of l m) (n - 1)
 
-pub marking : {l : Layout} {k : Nested} {p : ℕ} {m : List ℕ} {c : Option ℕ} (n v : ℕ) (s : List ℕ) → FirstIs l (inner_fam k) p m c → Marking l k p n v m s s c
-unfolding first_at
-marking n v s F = record { at = first_at F; given = given_none v s }
+pub record Marking (l : Layout) (x : nest.Thing) (n v : ℕ) (m s₀ s c : List ℕ) : Type 0 where
+  pub rest : Rest l (inner_fam x.kind) x.place m c
+  pub given : Given (gather (deeper l m n) rest.done) v s₀ s
 
-module _ {l : Layout} {k : Nested} {p n v : ℕ} {m t s₀ s : List ℕ} {c : Option ℕ} (T : Testable l k p m t) (M : Marking l k p n v m s₀ s c) where
-  abbrev P : State
-  P = state_of l m
+pub marking : {l : Layout} {x : nest.Thing} {m c : List ℕ} (n v : ℕ) (s : List ℕ) → NodesAre l (inner_fam x.kind) x.place m c → Marking l x n v m s s c
+unfolding rest_all
+marking n v s N = record { rest = rest_all N; given = given_none v s }
 
-  abbrev W : Thing → List Thing
-  W = within P (n - 1)
-
-  pub marking_on : {s' : List ℕ} {q : ℕ} {j : Nested} → (h : c ≡ Some q) → j ≡ inner_kind k → Given (W (nested_kind j, q)) v s s' → {d : Option ℕ} → NextIs l (inner_fam k) q m d → Marking l k p n v m s₀ s' d
-  unfolding next_at
-  marking_on {s'} {q} {j} h e G N =
+module _ {l : Layout} {x : nest.Thing} {n v : ℕ} {m s₀ s : List ℕ} where
+  pub marking_on : {s' c : List ℕ} {q : ℕ} {y : Thing} → Marking l x n v m s₀ s (q ∷ c) → y ≡ (nested_kind (inner_kind x.kind), q) → Given (deeper l m n y) v s s' → Marking l x n v m s₀ s' c
+  unfolding rest_on
+  marking_on {s'} {c} {q} {y} M e G =
       record {
-        at = next_at T.store M.at h N;
+        rest = rest_on M.rest;
         given = subst (λ (zs : List Thing). Given zs v s₀ s') more (given_append M.given G);
       }
     where
-      more : gather W M.at.done ++ W (nested_kind j, q) ≡ gather W (next_at T.store M.at h N).done
+      more : gather (deeper l m n) M.rest.done ++ deeper l m n y ≡ gather (deeper l m n) (rest_on M.rest).done
       more =
-          ap {B = List Thing} (λ (t : Thing). gather W M.at.done ++ W t) (sym (child_is k q e))
-          ∙ ap {B = List Thing} (λ (z : List Thing). gather W M.at.done ++ z) (sym (append_nil (W (node_in (inner_fam k), q))))
-          ∙ sym (gather_append W M.at.done ((node_in (inner_fam k), q) ∷ []))
+          ap {B = List Thing} (λ (t : Thing). gather (deeper l m n) M.rest.done ++ deeper l m n t) (sym (child_is x.kind q e))
+          ∙ ap {B = List Thing} (λ (z : List Thing). gather (deeper l m n) M.rest.done ++ z) (sym (append_nil (deeper l m n (node_in (inner_fam x.kind), q))))
+          ∙ sym (gather_append (deeper l m n) M.rest.done ((node_in (inner_fam x.kind), q) ∷ []))
 
-  pub marked : {s₁ : List ℕ} → (n ≡ 0 → ⊥) → c ≡ None → Given (alone (nested_kind k, p)) v s₁ s₀ → Given (within P n (nested_kind k, p)) v s₁ s
-  marked {s₁} h z O = subst (λ (zs : List Thing). Given zs v s₁ s) (sym (within_step P n (nested_kind k, p) h ∙ ap {B = List Thing} (λ (t : List Thing). (nested_kind k, p) ∷ gather W t) all)) (given_append O M.given)
+  pub marked : {t s₁ : List ℕ} → Testable l x m t → Marking l x n v m s₀ s [] → (n ≡ 0 → ⊥) → Given (alone (thing_at x)) v s₁ s₀ → Given (within (state_of l m) n (thing_at x)) v s₁ s
+  marked {t} {s₁} T M h O = subst (λ (zs : List Thing). Given zs v s₁ s) (sym (within_step (state_of l m) n (thing_at x) h ∙ ap {B = List Thing} (λ (t : List Thing). thing_at x ∷ gather (deeper l m n) t) all)) (given_append O M.given)
     where
-      all : kids P (nested_kind k, p) ≡ M.at.done
-      all = sym (nest_row T.store k p) ∙ M.at.parts ∙ ap {B = List Thing} (λ (t : List Thing). M.at.done ++ t) (at_end T.store M.at z) ∙ append_nil M.at.done
+      all : kids (state_of l m) (thing_at x) ≡ M.rest.done
+      all = sym (nest_row T.store x.kind x.place) ∙ M.rest.parts ∙ append_nil M.rest.done
 
 -- ---- marked, tested, and clear again
 
-pub tested_is : {l : Layout} {k : Nested} {p n deep : ℕ} {m s s₁ s₂ : List ℕ} {r : Result (Unit {0}) Refusal} → Testable l k p m s → Zeros s → DepthIs l m deep → Given (within (state_of l m) deep (nested_kind k, p)) 1 s s₁ → code_of r ≡ erase_code (state_of l m) (marks_in s₁) n (nested_kind k, p) → Given (within (state_of l m) deep (nested_kind k, p)) 0 s₁ s₂ → Tested l (nested_kind k, p) n m s s₂ r
+pub tested_is : {l : Layout} {x : nest.Thing} {n deep : ℕ} {m s s₁ s₂ : List ℕ} {r : Result (Unit {0}) Refusal} → Testable l x m s → Zeros s → DepthIs l m deep → Given (within (state_of l m) deep (thing_at x)) 1 s s₁ → code_of r ≡ erase_code (state_of l m) (marks_in s₁) n (thing_at x) → Given (within (state_of l m) deep (thing_at x)) 0 s₁ s₂ → Tested l (thing_at x) n m s s₂ r
 unfolding pick
-tested_is {l} {k} {p} {n} {deep} {m} {s} {s₁} {s₂} T Z D A c B =
+tested_is {l} {x} {n} {deep} {m} {s} {s₁} {s₂} T Z D A c B =
     record {
       marks = marks_in s₁;
-      right = λ o _. ap sgn (A.at o ∙ ap (λ (t : ℕ). pick (inside o) t 1) (Z o)) ∙ twice (inside o) ∙ ap (λ (zs : List Thing). sgn (count Thing-dec (op, o) zs)) (D.all (nested_kind k, p));
+      right = λ o _. ap sgn (A.at o ∙ ap (λ (t : ℕ). pick (inside o) t 1) (Z o)) ∙ twice (inside o) ∙ ap (λ (zs : List Thing). sgn (count Thing-dec (op, o) zs)) (D.all (thing_at x));
       code = c;
       scratch = record { long = omega (arith, T.long, A.long, B.long); zeros = λ o. B.at o ∙ ap (λ (t : ℕ). pick (inside o) t 0) (A.at o ∙ ap (λ (t : ℕ). pick (inside o) t 1) (Z o)) ∙ away (inside o) };
     }
   where
     inside : ℕ → ℕ
-    inside o = count Thing-dec (op, o) (within (state_of l m) deep (nested_kind k, p))
+    inside o = count Thing-dec (op, o) (within (state_of l m) deep (thing_at x))
 
     twice : (i : ℕ) → ◌≡◌ {A = ℕ} (sgn (pick i 0 1)) (sgn i)
     twice zero = refl

@@ -1,15 +1,13 @@
 -- The uses of one operation end: its operands, then its successors. Assumes nothing.
 use mathlib.Core.Path.{◌≡◌, refl, ap, ap₂, ◌∙◌}
-use mathlib.Core.Logic.{if_pos, if_neg, by_cases}
+use mathlib.Core.Logic.{by_cases}
 use mathlib.Core.List.{List}
 use mathlib.Core.Option.{Option, none, some}
-use native.Mathlib.Decide.{ℕ_discrete}
 use native.Mathlib.Omega.{arith}
-use Prim.Native.Nat.{ℕ, ◌+◌, ◌-◌, ◌*◌, ◌/◌, ◌%◌, ◌<◌, ◌≤◌}
+use Prim.Native.Nat.{ℕ, ◌+◌, ◌-◌, ◌≤◌}
 use lib.ListN.{length}
 use Rattle.seqs.specs.Seqs.{In}
 use Rattle.places.specs.Store.{Kind-dec, op, operands, successors, Limited, slots, Thing, Thing-dec, Con, State, Live, outer}
-use Rattle.places.specs.Parts.{rows_of}
 use Rattle.places.specs.Walk.{place_cut_by, cut_all, among, place_uses_at}
 use Rattle.seqs.proofs.Base.{tick_yes, tick_no, count_append}
 use Rattle.places.proofs.Cut.{sift_all, cut_append}
@@ -17,39 +15,16 @@ use Rattle.places.proofs.Nest.{up_to}
 use Rattle.places.proofs.DropAll.{uses_at}
 use Rattle.places.proofs.DropTurn.{length_append}
 use Rattle.context.specs.declared.Layout.{Layout}
-use Rattle.context.specs.Layout.{nc_of}
-use Rattle.context.specs.Memory.{con, state_of, SoundStore}
+use Rattle.context.specs.Memory.{ListIs, state_of, SoundStore}
 use Rattle.context.specs.Steps.{DroppedAll}
-use Rattle.context.proofs.Places.{place<}
 use Rattle.walk.specs.declared.Tally.{Tally}
 use Rattle.walk.specs.Drop.{Walked, walked, CanDrop, CanOwn, OwnTallied}
 use Rattle.walk.proofs.DropWalk.{OwnDropped}
 use Rattle.walk.proofs.Nested.{operations_eq}
 
-pub con_operands : (l : Layout) (o : ℕ) → con l slots (2 * o) ≡ (operands, (op, o))
-unfolding rows_of
-con_operands l o =
-    let q : 2 * o / 2 ≡ o = omega arith in
-    if_pos {C = Con} (ℕ_discrete (2 * o % 2) 0) (omega arith) (operands, (op, 2 * o / 2)) (successors, (op, 2 * o / 2)) ∙ ap (λ (p : ℕ). (operands, (op, p))) q
-
-pub con_successors : (l : Layout) (o : ℕ) → con l slots (2 * o + 1) ≡ (successors, (op, o))
-unfolding rows_of
-con_successors l o =
-    let q : (2 * o + 1) / 2 ≡ o = omega arith in
-    if_neg {C = Con} (ℕ_discrete ((2 * o + 1) % 2) 0) (λ e. absurd (omega (arith, e))) (operands, (op, (2 * o + 1) / 2)) (successors, (op, (2 * o + 1) / 2)) ∙ ap (λ (p : ℕ). (successors, (op, p))) q
-
 module _ {l : Layout} {m : List ℕ} (o : ℕ) (S : SoundStore l m) (v : Live (state_of l m) (op, o)) where
   abbrev P : State
   P = state_of l m
-
-  pub place : o < l.ops
-  place = place< S (op, o) v
-
-  pub first_row : 2 * o < nc_of l slots
-  first_row = omega (arith, place)
-
-  pub second_row : 2 * o + 1 < nc_of l slots
-  second_row = omega (arith, place)
 
   -- an operation has at most 64 operands and 64 successors
   pub few_uses : length (place_uses_at P (op, o)) ≤ 128
@@ -61,12 +36,12 @@ module _ {l : Layout} {m : List ℕ} (o : ℕ) (S : SoundStore l m) (v : Live (s
         S.sound.linked.short (op, o) successors Limited.of_successors,
       )
 
-  module _ {m₁ : List ℕ} {a : ℕ} (D : DroppedAll l (2 * o) m m₁ a) where
+  module _ {m₁ : List ℕ} {j a : ℕ} (J : ListIs l slots (operands, (op, o)) j) (D : DroppedAll l j m m₁ a) where
     state₁ : state_of l m₁ ≡ cut_all (P.list (op, o) operands) P
-    state₁ = D.state ∙ ap (λ (c : Con). cut_all (P.list c.1 c.0) P) (con_operands l o)
+    state₁ = D.state ∙ ap (λ (c : Con). cut_all (P.list c.1 c.0) P) J.row
 
     a_is : a ≡ length (P.list (op, o) operands)
-    a_is = D.counted ∙ ap (λ (c : Con). length (P.list c.1 c.0)) (con_operands l o)
+    a_is = D.counted ∙ ap (λ (c : Con). length (P.list c.1 c.0)) J.row
 
     -- no use stands in both
     apart : (u : Thing) → In Thing-dec u (P.list (op, o) successors) → among (P.list (op, o) operands) u ≡ 0
@@ -80,14 +55,14 @@ module _ {l : Layout} {m : List ℕ} (o : ℕ) (S : SoundStore l m) (v : Live (s
     unfolding place_cut_by
     seconds = ap (λ (Q : State). Q.list (op, o) successors) state₁ ∙ sift_all Thing-dec (among (P.list (op, o) operands)) (P.list (op, o) successors) apart
 
-    module _ {m₂ : List ℕ} {b : ℕ} (E : DroppedAll l (2 * o + 1) m₁ m₂ b) where
+    module _ {m₂ : List ℕ} {k b : ℕ} (K : ListIs l slots (successors, (op, o)) k) (E : DroppedAll l k m₁ m₂ b) where
       b_is : b ≡ length (P.list (op, o) successors)
-      b_is = E.counted ∙ ap (λ (c : Con). length ((state_of l m₁).list c.1 c.0)) (con_successors l o) ∙ ap length seconds
+      b_is = E.counted ∙ ap (λ (c : Con). length ((state_of l m₁).list c.1 c.0)) K.row ∙ ap length seconds
 
       state₂ : state_of l m₂ ≡ cut_all (place_uses_at P (op, o)) P
       state₂ =
           E.state
-          ∙ ap (λ (c : Con). cut_all ((state_of l m₁).list c.1 c.0) (state_of l m₁)) (con_successors l o)
+          ∙ ap (λ (c : Con). cut_all ((state_of l m₁).list c.1 c.0) (state_of l m₁)) K.row
           ∙ ap₂ {C = State} (λ (u : List Thing) (Q : State). cut_all u Q) seconds state₁
           ∙ cut_append (P.list (op, o) operands) (P.list (op, o) successors) P
 

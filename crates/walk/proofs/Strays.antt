@@ -1,9 +1,7 @@
 -- Uses from outside of what lies in a thing, set by set and thing by thing. Assumes nothing.
-use mathlib.Core.Path.{◌≡◌, refl, sym, ap, ap₂, ◌∙◌, subst}
-use mathlib.Core.Logic.{if_pos, if_neg}
+use mathlib.Core.Path.{◌≡◌, refl, sym, ap, ◌∙◌, subst}
 use mathlib.Core.Bool.{Bool, true, false, ◌||◌}
 use mathlib.Core.List.{List, [], ◌∷◌, ◌++◌, map}
-use native.Mathlib.Decide.{dec_lt}
 use native.Mathlib.Omega.{arith}
 use Prim.Native.Nat.{ℕ, zero, suc, ◌+◌, ◌-◌, ◌<◌}
 use lib.Dec.{eqb}
@@ -11,57 +9,43 @@ use lib.ListN.{length}
 use borrow.Author.Tests.{eqb-true, eqb-false}
 use Rattle.seqs.specs.Seqs.{sum}
 use mathlib.Core.Option.{Option, some}
-use Rattle.std.specs.Prelude as Rust
-use Rattle.std.specs.Prelude.{Some, Result, Ok, Err}
 use Rattle.edit.specs.declared.Nested.{Nested}
 use Rattle.places.specs.Store.{op, blk, reg, val, usg, slots, outer, value_uses, block_uses, results, arguments, use_sets, vals, Thing, Con, State, Live}
-use Rattle.places.specs.Parts.{node_in, rows_of}
+use Rattle.places.specs.Parts.{node_in}
 use Rattle.places.specs.Walk.{over, pick, sift, gather, kids, walk_by, place_values_at, def_sets, mark_of, stray_at, strays, strays_in}
 use Rattle.rules.specs.Table.{any}
 use Rattle.places.proofs.Cut.{pick_0, pick_1}
 use Rattle.places.proofs.Nest.{kind_code}
 use Rattle.places.proofs.DropTurn.{list_none, values_op, values_blk}
 use Rattle.context.specs.declared.Layout.{Layout}
-use Rattle.context.specs.Memory.{con, state_of, SoundStore}
-use Rattle.context.specs.Nest.{nested_kind, inner_fam}
+use Rattle.context.specs.declared.Thing as nest
+use Rattle.context.specs.Memory.{con, ListIs, state_of, SoundStore}
+use Rattle.context.specs.Nest.{nested_kind, inner_fam, thing_at}
 use Rattle.context.specs.Reading.{list_of}
-use Rattle.context.proofs.Cursor.{row, At, here}
-use Rattle.context.proofs.Users.{con_block_uses}
+use Rattle.context.proofs.Cursor.{row}
+use Rattle.context.proofs.Rest.{Rest, first_here}
+use Rattle.context.proofs.Numbers.{value_uses_list}
 use Rattle.walk.specs.Erase.{inner_kind}
 use Rattle.walk.specs.Tests.{within, stray, stray_set, stray_value, stray_thing, DepthIs, Testable, erase_code}
 use Rattle.walk.proofs.DropWalk.{list_of_lem}
 use Rattle.walk.proofs.EraseLaws.{region_none}
 use Rattle.walk.proofs.EraseWalk.{inner, inner_node}
 
-pub con_value_uses : (l : Layout) (k : ℕ) → k < l.values → con l use_sets k ≡ (value_uses, (val, k))
-unfolding rows_of
-con_value_uses l k h = if_pos {C = Con} (dec_lt k l.values) h (value_uses, (val, k)) (block_uses, (blk, k - l.values))
-
-pub con_results : (l : Layout) (k : ℕ) → k < l.ops → con l vals k ≡ (results, (op, k))
-unfolding rows_of
-con_results l k h = if_pos {C = Con} (dec_lt k l.ops) h (results, (op, k)) (arguments, (blk, k - l.ops))
-
-pub con_arguments : (l : Layout) (b : ℕ) → con l vals (l.ops + b) ≡ (arguments, (blk, b))
-unfolding rows_of
-con_arguments l b =
-    let q : l.ops + b - l.ops ≡ b = omega arith in
-    if_neg {C = Con} (dec_lt (l.ops + b) l.ops) (λ h. absurd (omega (arith, h))) (results, (op, l.ops + b)) (arguments, (blk, l.ops + b - l.ops)) ∙ ap (λ (p : ℕ). (arguments, (blk, p))) q
-
 -- ---- what lies directly in a thing of the kind k
 
 pub nest_row : {l : Layout} {m : List ℕ} (S : SoundStore l m) (k : Nested) (p : ℕ) → row l (inner_fam k) p m ≡ kids (state_of l m) (nested_kind k, p)
 nest_row {l} {m} S k p = sym (list_of_lem (inner l k p) m S.sound.linked)
 
-pub child_is : (k : Nested) (c : ℕ) {j : Nested} → j ≡ inner_kind k → ◌≡◌ {A = Thing} (node_in (inner_fam k), c) (nested_kind j, c)
-child_is k c e = ap {B = Thing} (λ t. (t, c)) (inner_node k ∙ ap nested_kind (sym e))
+pub child_is : (k : Nested) (c : ℕ) {y : Thing} → y ≡ (nested_kind (inner_kind k), c) → ◌≡◌ {A = Thing} (node_in (inner_fam k), c) y
+child_is k c e = ap {B = Thing} (λ t. (t, c)) (inner_node k) ∙ sym e
 
 -- the one that the loop has come to
-pub child_testable : {l : Layout} {m s : List ℕ} {k : Nested} {p : ℕ} {c : Rust.Option ℕ} {q : ℕ} {j : Nested} (T : Testable l k p m s) (A : At l (inner_fam k) p m c) (h : c ≡ Some q) → j ≡ inner_kind k → {s' : List ℕ}
-    → length s' ≡ length s → Testable l j q m s'
-child_testable {l} {m} {s} {k} {p} {c} {q} {j} T A h i e =
+pub child_testable : {l : Layout} {m s : List ℕ} {x y : nest.Thing} {q : ℕ} {c : List ℕ} (T : Testable l x m s) → Rest l (inner_fam x.kind) x.place m (q ∷ c) → thing_at y ≡ (nested_kind (inner_kind x.kind), q) → {s' : List ℕ}
+    → length s' ≡ length s → Testable l y m s'
+child_testable {l} {m} {x = x} {q = q} T R i e =
     record {
       store = T.store;
-      live = subst (λ (t : Thing). Live (state_of l m) t) (child_is k q i) (here T.store A h).live;
+      live = subst (λ (t : Thing). Live (state_of l m) t) (child_is x.kind q i) (first_here R T.store).live;
       long = omega (arith, e, T.long);
     }
 
@@ -129,7 +113,7 @@ module _ {l : Layout} {m : List ℕ} (S : SoundStore l m) (mk : ℕ → ℕ) whe
   Q = state_of l m
 
   pub value_set : (v : ℕ) → v < l.values → stray_set Q mk (con l use_sets v) ≡ stray_value Q mk (val, v)
-  value_set v h = ap (stray_set Q mk) (con_value_uses l v h)
+  value_set v h = ap (stray_set Q mk) (value_uses_list l v h).row
 
   -- by its block's own set, and its values
   parts : (z : Thing) (vs : List Thing) → place_values_at Q z ≡ vs → stray_thing Q mk z ≡ (stray_set Q mk (block_uses, z) || any (stray_value Q mk) vs)
@@ -140,17 +124,15 @@ module _ {l : Layout} {m : List ℕ} (S : SoundStore l m) (mk : ℕ → ℕ) whe
   unfolding stray_set any
   no_set z e = ap (any (stray Q mk)) e
 
-  pub of_op : (o : ℕ) → o < l.ops → any (stray_value Q mk) (list_of l m (con l vals o)) ≡ stray_thing Q mk (op, o)
+  pub of_op : {o k : ℕ} → ListIs l vals (results, (op, o)) k → any (stray_value Q mk) (list_of l m (con l vals k)) ≡ stray_thing Q mk (op, o)
   unfolding kind_code
-  of_op o h = sym (
+  of_op {o} K = sym (
       parts (op, o) (Q.list (op, o) results) (values_op S.sound.linked o)
       ∙ ap (λ r. r || any (stray_value Q mk) (Q.list (op, o) results)) (no_set (op, o) (list_none S.sound.linked (op, o) block_uses (λ g. absurd (omega arith))))
-      ∙ ap (λ (c : Con). any (stray_value Q mk) (list_of l m c)) (sym (con_results l o h)))
+      ∙ ap (λ (c : Con). any (stray_value Q mk) (list_of l m c)) (sym K.row))
 
-  pub of_block : (b : ℕ) → (stray_set Q mk (con l use_sets (l.values + b)) || any (stray_value Q mk) (list_of l m (con l vals (l.ops + b)))) ≡ stray_thing Q mk (blk, b)
-  of_block b = sym (
-      parts (blk, b) (Q.list (blk, b) arguments) (values_blk S.sound.linked b)
-      ∙ ap₂ {C = Bool} (λ (c d : Con). stray_set Q mk c || any (stray_value Q mk) (list_of l m d)) (sym (con_block_uses l b)) (sym (con_arguments l b)))
+  pub of_block : {b d : ℕ} → ListIs l use_sets (block_uses, (blk, b)) d → {r : Bool} → r ≡ stray_set Q mk (con l use_sets d) → (r || any (stray_value Q mk) (Q.list (blk, b) arguments)) ≡ stray_thing Q mk (blk, b)
+  of_block {b} D e = ap (λ a. a || any (stray_value Q mk) (Q.list (blk, b) arguments)) (e ∙ ap (stray_set Q mk) D.row) ∙ sym (parts (blk, b) (Q.list (blk, b) arguments) (values_blk S.sound.linked b))
 
   pub of_region : (r : ℕ) → false ≡ stray_thing Q mk (reg, r)
   unfolding any kind_code

@@ -3,14 +3,14 @@
 use Rattle.std.specs.Prelude.{◌≡◌, Bool, List, [], ◌∷◌, ℕ, ◌≤◌, eqb, length, get_or, Result}
 use Rattle.seqs.specs.Seqs.{count, sum}
 use Rattle.edit.specs.Kinds.{code_of}
-use Rattle.edit.specs.declared.Nested.{Nested}
 use Rattle.edit.specs.declared.Refusal.{Refusal}
 use Rattle.places.specs.Store.{op, value_uses, Thing, Thing-dec, Con, State, Live}
 use Rattle.places.specs.Walk.{pick, sgn, kids, walk_by, walk, def_sets, mark_of, strays, strays_in}
 use Rattle.rules.specs.Table.{any}
 use Rattle.context.specs.declared.Layout.{Layout}
+use Rattle.context.specs.declared.Thing as nest
 use Rattle.context.specs.Memory.{state_of, SoundStore}
-use Rattle.context.specs.Nest.{nested_kind}
+use Rattle.context.specs.Nest.{thing_at}
 
 -- ---- what lies in a thing
 
@@ -49,9 +49,9 @@ pub record Given (zs : List Thing) (v : ℕ) (s s' : List ℕ) : Type 0 where
   pub at : (o : ℕ) → get_or s' o 0 ≡ pick (count Thing-dec (op, o) zs) (get_or s o 0) v
 
 -- a thing of the store, and a scratch with a word for each operation
-pub record Testable (l : Layout) (k : Nested) (p : ℕ) (m s : List ℕ) : Type 0 where
+pub record Testable (l : Layout) (x : nest.Thing) (m s : List ℕ) : Type 0 where
   pub store : SoundStore l m
-  pub live : Live (state_of l m) (nested_kind k, p)
+  pub live : Live (state_of l m) (thing_at x)
   pub long : l.ops ≤ length s
 
 -- all words are 0

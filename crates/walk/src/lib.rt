@@ -3,6 +3,7 @@
 #![tactic(auto)]
 
 ghost use Rattle.std.specs.Prelude.{◌≡◌, ◌||◌, ◌≤◌, ◌<◌, length};
+ghost use Rattle.std.specs.Int.{from_bool};
 ghost use Rattle.places.specs.Store.{op, blk, reg, usg, use_sets, vals, Live, up};
 ghost use Rattle.places.specs.Verdict.{terminates, lackable, place_ends_well, place_names_block, place_leads_to, place_lost_pred, place_too_early};
 ghost use Rattle.rules.specs.Table.{any, some_and};
@@ -13,7 +14,7 @@ ghost use Rattle.edit.specs.Record.{drop_uses, erase_region, verdict};
 ghost use Rattle.context.specs.Kinds.{fam_of};
 ghost use Rattle.context.specs.Layout.{nc_of};
 ghost use Rattle.context.specs.Memory.{con, state_of, SoundStore};
-ghost use Rattle.context.specs.Nest.{nested_kind};
+ghost use Rattle.context.specs.Nest.{nested_kind, thing_at};
 ghost use Rattle.context.specs.Performed.{Performed};
 ghost use Rattle.context.specs.Reading.{list_of};
 ghost use Rattle.context.specs.Steps.{CanEnd, Ended};
@@ -22,8 +23,8 @@ ghost use Rattle.walk.specs.Judge.{user_leads, Answers, reply_of, BlockAlone, Op
 ghost use Rattle.walk.specs.Tests.{within, alone, DepthIs, Testable, Given, stray, stray_set, stray_value, stray_thing, marks_in, erase_code, Zeros, Tested, Scratch};
 ghost use Rattle.walk.specs.Erase.{CanErase, Erased, CanEndValues, EndedValues, OwnEnded, inner_kind, own_reach, EraseAnswer, erase_by};
 
-use context::{Family, Kind, Layout};
-use edit::{Answer, Member, Nested, Refusal};
+use context::{Family, Kind, Layout, Thing, slots_of, use_set_of, values_of};
+use edit::{Answer, Member, Nested, Refusal, Slot};
 
 // What a walk over the nest counts: operations freed and uses ended.
 #[derive(Clone, Copy)]
@@ -62,13 +63,14 @@ fn drop_own(m: &mut [u32], l: Layout, o: usize, t: &mut Tally)
     requires { CanOwn l o t.old m.old }
     ensures { OwnTallied l o t.old m.old m.new t.new }
 {
-    let operands = context::operation::drop_slots(m, l, 2 * o);
-    let successors = context::operation::drop_slots(m, l, 2 * o + 1);
+    let operands = context::operation::drop_slots(m, l, slots_of(l, Slot::Operand, o));
+    let successors = context::operation::drop_slots(m, l, slots_of(l, Slot::Successor, o));
     t.freed += 1;
     t.ended += (operands + successors) as u32;
 }
 
 // Kept (point 2): dropping has three functions that call each other over the nest, by a rule of the project.
+// Kept (point 5): `left` stays a real count, since functions that call each other may have no ghost value.
 // All uses in the operation at the place `o` end, its own included. `left` operations are not yet reached; the number left after is handed back.
 #[cycle(drop_block_drop_operation_drop_region)]
 pub fn drop_operation(m: &mut [u32], l: Layout, o: usize, left: usize, t: &mut Tally) -> usize
@@ -115,37 +117,37 @@ pub fn drop_block(m: &mut [u32], l: Layout, b: usize, left: usize, t: &mut Tally
     n
 }
 
-// All uses in the thing of the kind `k` at `p` end.
-fn drop_inside(m: &mut [u32], l: Layout, k: Nested, p: usize, left: usize, t: &mut Tally) -> usize
-    requires { CanDrop l (nested_kind k, p) (walked left t.old) m.old }
-    ensures { Dropped l (nested_kind k, p) (walked left t.old) m.old m.new (walked result t.new) }
+// All uses in the thing end.
+fn drop_inside(m: &mut [u32], l: Layout, x: Thing, left: usize, t: &mut Tally) -> usize
+    requires { CanDrop l (thing_at x) (walked left t.old) m.old }
+    ensures { Dropped l (thing_at x) (walked left t.old) m.old m.new (walked result t.new) }
 {
-    match k {
-        Nested::Operation => drop_operation(m, l, p, left, t),
-        Nested::Block => drop_block(m, l, p, left, t),
-        Nested::Region => drop_region(m, l, p, left, t),
+    match x.kind {
+        Nested::Operation => drop_operation(m, l, x.place, left, t),
+        Nested::Block => drop_block(m, l, x.place, left, t),
+        Nested::Region => drop_region(m, l, x.place, left, t),
     }
 }
 
 // All uses in the thing end; the tally says how many operations lie in it and how many uses ended.
-fn drop_tallied(m: &mut [u32], l: Layout, k: Nested, p: usize) -> Tally
+fn drop_tallied(m: &mut [u32], l: Layout, x: Thing) -> Tally
     requires sound_store { SoundStore l m.old }
-    requires live { Live (state_of l m.old) (nested_kind k, p) }
-    ensures { Tallied l (nested_kind k, p) m.old m.new result }
+    requires live { Live (state_of l m.old) (thing_at x) }
+    ensures { Tallied l (thing_at x) m.old m.new result }
 {
     let left = context::live_count(m, l, Kind::Operation);
     let mut t = Tally { freed: 0, ended: 0 };
-    drop_inside(m, l, k, p, left, &mut t);
+    drop_inside(m, l, x, left, &mut t);
     t
 }
 
-// Edits 36, 37, 38: all uses in the thing of the kind `k` with this number end. Refused: 7, 8, 9 by the kind.
-pub fn drop_uses(m: &mut [u32], l: Layout, k: Nested, number: u32) -> Answer
+// Edits 36, 37, 38: all uses in the thing of this kind with this number end. Refused: 7, 8, 9 by the kind.
+pub fn drop_uses(m: &mut [u32], l: Layout, kind: Nested, number: u32) -> Answer
     requires { SoundStore l m.old }
-    ensures { Performed l (drop_uses (thing_of k number)) m.old m.new result }
+    ensures { Performed l (drop_uses (thing_of kind number)) m.old m.new result }
 {
-    let p = context::look_up(m, l, Kind::from(k), number)?;
-    let t = drop_tallied(m, l, k, p);
+    let place = context::look_up(m, l, Kind::from(kind), number)?;
+    let t = drop_tallied(m, l, Thing { kind, place });
     Ok((0, t.ended))
 }
 
@@ -178,12 +180,12 @@ fn names_block(m: &[u32], l: Layout, b: usize, o: usize) -> bool
     requires { SoundStore l m.now × Live (state_of l m.now) (blk, b) × Live (state_of l m.now) (op, o) }
     ensures { result ≡ place_names_block (state_of l m.now) (blk, b) (op, o) }
 {
-    let uses_of_block = l.values + b;
+    let uses_of_block = use_set_of(l, Slot::Successor, b);
     context::any_of(
         m,
         l,
         Family::Slots,
-        2 * o + 1,
+        slots_of(l, Slot::Successor, o),
         |u| context::home_of(m, l, Family::UseSets, u) == Some(uses_of_block),
     )
 }
@@ -214,7 +216,7 @@ fn lost_pred(m: &[u32], l: Layout, b: usize) -> bool
         m,
         l,
         Family::UseSets,
-        l.values + b,
+        use_set_of(l, Slot::Successor, b),
         |u| !user_leads(m, l, b, u),
     )
 }
@@ -266,10 +268,8 @@ pub fn verify_operation(m: &[u32], l: Layout, o: usize) -> Result<(), Fault>
     requires { SoundStore l m.now × Live (state_of l m.now) (op, o) }
     ensures { OpJudged l o m.now result }
 {
-    let mut next = context::first_of(m, l, Family::Regions, o);
-    while let Some(r) = next {
+    for r in context::nodes(m, l, Family::Regions, o) {
         verify_region(m, l, r)?;
-        next = context::next_of(m, l, Family::Regions, r);
     }
     judge_end(m, l, o)
 }
@@ -280,10 +280,8 @@ pub fn verify_region(m: &[u32], l: Layout, r: usize) -> Result<(), Fault>
     requires { SoundStore l m.now × Live (state_of l m.now) (reg, r) }
     ensures { RegionJudged l r m.now result }
 {
-    let mut next = context::first_of(m, l, Family::Blocks, r);
-    while let Some(b) = next {
+    for b in context::nodes(m, l, Family::Blocks, r) {
         verify_block(m, l, b)?;
-        next = context::next_of(m, l, Family::Blocks, b);
     }
     Ok(())
 }
@@ -295,10 +293,8 @@ pub fn verify_block(m: &[u32], l: Layout, b: usize) -> Result<(), Fault>
     ensures { BlockJudged l b m.now result }
 {
     judge_block(m, l, b)?;
-    let mut next = context::first_of(m, l, Family::Operations, b);
-    while let Some(o) = next {
+    for o in context::nodes(m, l, Family::Operations, b) {
         verify_operation(m, l, o)?;
-        next = context::next_of(m, l, Family::Operations, o);
     }
     Ok(())
 }
@@ -313,13 +309,13 @@ fn answer_of(judged: Result<(), Fault>) -> Answer
     }
 }
 
-// Edits 42, 43, 44: the verdict on the thing of the kind `k` with this number. Refused: 7, 8, 9 by the kind.
-pub fn verdict(m: &[u32], l: Layout, k: Nested, number: u32) -> Answer
+// Edits 42, 43, 44: the verdict on the thing of this kind with this number. Refused: 7, 8, 9 by the kind.
+pub fn verdict(m: &[u32], l: Layout, kind: Nested, number: u32) -> Answer
     requires { SoundStore l m.now }
-    ensures { Performed l (verdict (thing_of k number)) m.now m.now result }
+    ensures { Performed l (verdict (thing_of kind number)) m.now m.now result }
 {
-    let p = context::look_up(m, l, Kind::from(k), number)?;
-    match k {
+    let p = context::look_up(m, l, Kind::from(kind), number)?;
+    match kind {
         Nested::Operation => answer_of(verify_operation(m, l, p)),
         Nested::Block => answer_of(verify_block(m, l, p)),
         Nested::Region => answer_of(verify_region(m, l, p)),
@@ -339,40 +335,39 @@ fn depth(m: &[u32], l: Layout) -> usize
     a + b + c + d + e + 1
 }
 
-// The kind of what lies directly in a thing of the kind `k`.
-fn inner_kind(k: Nested) -> Nested
-    ensures { result ≡ inner_kind k }
+// The thing at this place among those that lie directly in `x`.
+fn inner(x: Thing, place: usize) -> Thing
+    ensures { thing_at result ≡ (nested_kind (inner_kind x.kind), place) }
 {
-    match k {
+    let kind = match x.kind {
         Nested::Operation => Nested::Region,
         Nested::Block => Nested::Operation,
         Nested::Region => Nested::Block,
-    }
+    };
+    Thing { kind, place }
 }
 
-// The thing gets the mark `v` if it is an operation.
-fn mark_own(s: &mut [u32], k: Nested, p: usize, v: u32)
-    requires { k ≡ Operation → p < length s.old }
-    ensures { Given (alone (nested_kind k, p)) v s.old s.new }
+// The thing is marked or not, if it is an operation.
+fn mark_own(s: &mut [u32], x: Thing, marked: bool)
+    requires { x.kind ≡ Operation → x.place < length s.old }
+    ensures { Given (alone (thing_at x)) (from_bool marked) s.old s.new }
 {
-    if let Nested::Operation = k {
-        s[p] = v;
+    if let Nested::Operation = x.kind {
+        s[x.place] = u32::from(marked);
     }
 }
 
-// The operations in the thing, itself included, by fewer than `n` steps get the mark `v`.
-fn mark_within(m: &[u32], l: Layout, s: &mut [u32], k: Nested, p: usize, n: usize, v: u32)
-    requires { Testable l k p m.now s.old }
-    ensures { Given (within (state_of l m.now) n (nested_kind k, p)) v s.old s.new }
+// The operations in the thing, itself included, by fewer than `n` steps are marked or not.
+fn mark_within(m: &[u32], l: Layout, s: &mut [u32], x: Thing, n: usize, marked: bool)
+    requires { Testable l x m.now s.old }
+    ensures { Given (within (state_of l m.now) n (thing_at x)) (from_bool marked) s.old s.new }
 {
     if n == 0 {
         return;
     }
-    mark_own(s, k, p, v);
-    let mut next = context::first_of(m, l, Family::from(k), p);
-    while let Some(c) = next {
-        mark_within(m, l, s, inner_kind(k), c, n - 1, v);
-        next = context::next_of(m, l, Family::from(k), c);
+    mark_own(s, x, marked);
+    for c in context::nodes(m, l, Family::from(x.kind), x.place) {
+        mark_within(m, l, s, inner(x, c), n - 1, marked);
     }
 }
 
@@ -406,35 +401,36 @@ fn values_stray(m: &[u32], l: Layout, s: &[u32], c: usize) -> bool
 }
 
 // Whether a use of a definition of the thing does: of a result, of an argument, of the block itself.
-fn own_strays(m: &[u32], l: Layout, s: &[u32], k: Nested, p: usize) -> bool
-    requires { Testable l k p m.now s.now }
-    ensures { result ≡ stray_thing (state_of l m.now) (marks_in s.now) (nested_kind k, p) }
+fn own_strays(m: &[u32], l: Layout, s: &[u32], x: Thing) -> bool
+    requires { Testable l x m.now s.now }
+    ensures { result ≡ stray_thing (state_of l m.now) (marks_in s.now) (thing_at x) }
 {
-    match k {
-        Nested::Operation => values_stray(m, l, s, p),
-        Nested::Block => set_strays(m, l, s, l.values + p) || values_stray(m, l, s, l.ops + p),
+    match x.kind {
+        Nested::Operation => values_stray(m, l, s, values_of(l, Member::Operation, x.place)),
+        Nested::Block => {
+            set_strays(m, l, s, use_set_of(l, Slot::Successor, x.place))
+                || values_stray(m, l, s, values_of(l, Member::Block, x.place))
+        }
         Nested::Region => false,
     }
 }
 
 // Kept (point 2): a closure for `any_of` that calls back needs clauses of its own, which are longer than the loop.
 // Whether anything in the thing, itself included, by fewer than `n` steps is used at an operation without a mark.
-fn strays_within(m: &[u32], l: Layout, s: &[u32], k: Nested, p: usize, n: usize) -> bool
-    requires { Testable l k p m.now s.now }
-    ensures { result ≡ any (stray_thing (state_of l m.now) (marks_in s.now)) (within (state_of l m.now) n (nested_kind k, p)) }
+fn strays_within(m: &[u32], l: Layout, s: &[u32], x: Thing, n: usize) -> bool
+    requires { Testable l x m.now s.now }
+    ensures { result ≡ any (stray_thing (state_of l m.now) (marks_in s.now)) (within (state_of l m.now) n (thing_at x)) }
 {
     if n == 0 {
         return false;
     }
-    if own_strays(m, l, s, k, p) {
+    if own_strays(m, l, s, x) {
         return true;
     }
-    let mut next = context::first_of(m, l, Family::from(k), p);
-    while let Some(c) = next {
-        if strays_within(m, l, s, inner_kind(k), c, n - 1) {
+    for c in context::nodes(m, l, Family::from(x.kind), x.place) {
+        if strays_within(m, l, s, inner(x, c), n - 1) {
             return true;
         }
-        next = context::next_of(m, l, Family::from(k), c);
     }
     false
 }
@@ -444,40 +440,32 @@ fn test_marked(
     m: &[u32],
     l: Layout,
     s: &[u32],
-    k: Nested,
-    p: usize,
+    x: Thing,
     n: usize,
     deep: usize,
 ) -> Result<(), Refusal>
-    requires testable { Testable l k p m.now s.now }
+    requires testable { Testable l x m.now s.now }
     requires depth_is { DepthIs l m.now deep }
-    ensures { code_of result ≡ erase_code (state_of l m.now) (marks_in s.now) n (nested_kind k, p) }
+    ensures { code_of result ≡ erase_code (state_of l m.now) (marks_in s.now) n (thing_at x) }
 {
-    if strays_within(m, l, s, k, p, n) {
+    if strays_within(m, l, s, x, n) {
         return Err(Refusal::Used);
     }
-    if strays_within(m, l, s, k, p, deep) {
+    if strays_within(m, l, s, x, deep) {
         return Err(Refusal::UsedInside);
     }
     Ok(())
 }
 
 // The same, of a thing that gets its marks for the time of the test.
-fn test_erase(
-    m: &[u32],
-    l: Layout,
-    s: &mut [u32],
-    k: Nested,
-    p: usize,
-    n: usize,
-) -> Result<(), Refusal>
-    requires { Testable l k p m.now s.old × Zeros s.old }
-    ensures { Tested l (nested_kind k, p) n m.now s.old s.new result }
+fn test_erase(m: &[u32], l: Layout, s: &mut [u32], x: Thing, n: usize) -> Result<(), Refusal>
+    requires { Testable l x m.now s.old × Zeros s.old }
+    ensures { Tested l (thing_at x) n m.now s.old s.new result }
 {
     let deep = depth(m, l);
-    mark_within(m, l, s, k, p, deep, 1);
-    let r = test_marked(m, l, s, k, p, n, deep);
-    mark_within(m, l, s, k, p, deep, 0);
+    mark_within(m, l, s, x, deep, true);
+    let r = test_marked(m, l, s, x, n, deep);
+    mark_within(m, l, s, x, deep, false);
     r
 }
 
@@ -492,40 +480,40 @@ fn end_values(m: &mut [u32], l: Layout, c: usize)
 }
 
 // The results of an operation and the arguments of a block end; a region has none.
-fn end_own(m: &mut [u32], l: Layout, k: Nested, p: usize)
-    requires { CanErase l (nested_kind k, p) m.old }
-    ensures { OwnEnded l (nested_kind k, p) m.old m.new }
+fn end_own(m: &mut [u32], l: Layout, x: Thing)
+    requires { CanErase l (thing_at x) m.old }
+    ensures { OwnEnded l (thing_at x) m.old m.new }
 {
-    match k {
-        Nested::Operation => end_values(m, l, p),
-        Nested::Block => end_values(m, l, l.ops + p),
+    match x.kind {
+        Nested::Operation => end_values(m, l, values_of(l, Member::Operation, x.place)),
+        Nested::Block => end_values(m, l, values_of(l, Member::Block, x.place)),
         Nested::Region => {}
     }
 }
 
 // The thing itself ends.
-fn end_thing(m: &mut [u32], l: Layout, k: Nested, p: usize)
+fn end_thing(m: &mut [u32], l: Layout, x: Thing)
     requires sound_store { SoundStore l m.old }
-    requires can_end { CanEnd (state_of l m.old) (nested_kind k, p) }
-    ensures { Ended l (nested_kind k, p) m.old m.new }
+    requires can_end { CanEnd (state_of l m.old) (thing_at x) }
+    ensures { Ended l (thing_at x) m.old m.new }
 {
-    match k {
-        Nested::Operation => context::operation::end_operation(m, l, p),
-        Nested::Block => context::basic_block::end_block(m, l, p),
-        Nested::Region => context::region::end_region(m, l, p),
+    match x.kind {
+        Nested::Operation => context::operation::end_operation(m, l, x.place),
+        Nested::Block => context::basic_block::end_block(m, l, x.place),
+        Nested::Region => context::region::end_region(m, l, x.place),
     }
 }
 
-// The thing of the kind `k` at `p` ends, with all that lies in it: its values, then what lies in it, then itself.
-pub fn erase_inside(m: &mut [u32], l: Layout, k: Nested, p: usize)
-    requires { CanErase l (nested_kind k, p) m.old }
-    ensures { Erased l (nested_kind k, p) m.old m.new }
+// The thing ends, with all that lies in it: its values, then what lies in it, then itself.
+pub fn erase_inside(m: &mut [u32], l: Layout, x: Thing)
+    requires { CanErase l (thing_at x) m.old }
+    ensures { Erased l (thing_at x) m.old m.new }
 {
-    end_own(m, l, k, p);
-    while let Some(c) = context::first_of(m, l, Family::from(k), p) {
-        erase_inside(m, l, inner_kind(k), c);
+    end_own(m, l, x);
+    while let Some(c) = context::first_of(m, l, Family::from(x.kind), x.place) {
+        erase_inside(m, l, inner(x, c));
     }
-    end_thing(m, l, k, p);
+    end_thing(m, l, x);
 }
 
 // By fewer than how many steps a use from outside is one of the thing's own (13): of an operation, of a block or its operations.
@@ -539,16 +527,16 @@ fn own_reach(k: Nested) -> usize
     }
 }
 
-// The thing of the kind `k` at `p` is erased, unless what lies in it is used from outside: 13 within its own reach, else 14.
+// The thing is erased, unless what lies in it is used from outside: 13 within its own reach, else 14.
 // All tests come before the first store.
-fn erase_found(m: &mut [u32], l: Layout, s: &mut [u32], k: Nested, p: usize) -> Answer
-    requires { Testable l k p m.old s.old × Zeros s.old }
-    ensures erase_answer { EraseAnswer l (nested_kind k, p) (own_reach k) m.old m.new result }
+fn erase_found(m: &mut [u32], l: Layout, s: &mut [u32], x: Thing) -> Answer
+    requires { Testable l x m.old s.old × Zeros s.old }
+    ensures erase_answer { EraseAnswer l (thing_at x) (own_reach x.kind) m.old m.new result }
     ensures scratch { Scratch l s.new }
 {
-    test_erase(m, l, s, k, p, own_reach(k))?;
-    let t = drop_tallied(m, l, k, p);
-    erase_inside(m, l, k, p);
+    test_erase(m, l, s, x, own_reach(x.kind))?;
+    let t = drop_tallied(m, l, x);
+    erase_inside(m, l, x);
     Ok((t.freed, t.ended))
 }
 
@@ -560,11 +548,9 @@ pub fn erase(m: &mut [u32], l: Layout, s: &mut [u32], w: Member, number: u32) ->
     ensures performed { Performed l (erase_by (member_of w) number) m.old m.new result }
     ensures scratch_2 { Scratch l s.new }
 {
-    let p = context::look_up(m, l, Kind::from(w), number)?;
-    match w {
-        Member::Operation => erase_found(m, l, s, Nested::Operation, p),
-        Member::Block => erase_found(m, l, s, Nested::Block, p),
-    }
+    let place = context::look_up(m, l, Kind::from(w), number)?;
+    let kind = Nested::from(w);
+    erase_found(m, l, s, Thing { kind, place })
 }
 
 // Edit 41: the region of the operation with this number, at this index, is erased. Refused: 7, 12, 14.
@@ -578,6 +564,7 @@ pub fn erase_region(m: &mut [u32], l: Layout, s: &mut [u32], number: u32, index:
     if context::row_length(m, l, Family::Regions, o) <= index {
         return Err(Refusal::NoIndex);
     }
-    let p = context::nth_of(m, l, Family::Regions, o, index);
-    erase_found(m, l, s, Nested::Region, p)
+    let kind = Nested::Region;
+    let place = context::nth_of(m, l, Family::Regions, o, index);
+    erase_found(m, l, s, Thing { kind, place })
 }

@@ -1,24 +1,16 @@
-use Rattle.context.proofs.Cursor.{here, next_less}
-use Rattle.context.proofs.Calling.{calling, passed, failed, none_passed}
+use Rattle.std.proofs.Common.{rules, true, false, refl}
+use Rattle.std.proofs.lemmas.Iterator.{cases_from_any}
+use Rattle.std.proofs.lemmas.Iterator.Adapters.{serves_from_places}
+use Rattle.std.proofs.lemmas.Iterator.Consumers.{YieldsList-from_first}
+use Rattle.context.proofs.Calling.{called_live, any_called}
 use Rattle.context.proofs.any_of.Goals as goal
 
-pub loop-next-init : goal.loop-next-init
-loop-next-init g c = calling _ c.first_of-next.ensures
-
-pub test-requires : goal.test-requires
-test-requires g c = c.requires.callable c.in-Some.p (here c.requires.sound_store c.loop-next.invariant.at c.in-Some.is).live
-
-pub returns-then-test : goal.returns-then-test
-returns-then-test g c = passed c.requires.sound_store c.loop-next.invariant c.in-Some.is c.if-test.ensures
-
-pub next_of-next-requires-clause-n_bound : goal.next_of-next-requires-clause-n_bound
-next_of-next-requires-clause-n_bound g c = (here c.requires.sound_store c.loop-next.invariant.at c.in-Some.is).place
-
-pub loop-next-smaller : goal.loop-next-smaller
-loop-next-smaller g c = next_less c.requires.sound_store c.loop-next.invariant.at c.in-Some.is c.next_of-next.ensures
-
-pub loop-next-preserved : goal.loop-next-preserved
-loop-next-preserved g c = failed c.requires.sound_store c.loop-next.invariant c.in-Some.is c.if-test.ensures c.next_of-next.ensures
+pub any-requires-clause-callable : goal.any-requires-clause-callable
+any-requires-clause-callable g c =
+    serves_from_places (YieldsList-from_first (λ x. x) (λ rest. rest) _ refl) (λ x q r. g.met.F.Fn.1.step_stays _ _ _ _ (record { met = r.met }))
+    (λ x k h e. c.requires.callable x (called_live c.requires.sound_store c.nodes.ensures k x h e))
 
 pub returns : goal.returns
-returns g c = none_passed c.requires.sound_store c.loop-next.invariant c.in_default.is
+returns g c =
+    any_called c.requires.sound_store (λ p b. goal.F-post g c.args.test p b) c.any.result c.nodes.ensures
+    (cases_from_any _ _ c.any.result (λ p. goal.F-post g c.args.test p true) (λ p. goal.F-post g c.args.test p false) c.any.ensures.ran (YieldsList-from_first (λ x. x) (λ rest. rest) _ refl) (λ x q r. search rules) (λ x q r. search rules))

@@ -2,7 +2,7 @@ use mathlib.Core.Path.{refl}
 use Rattle.std.proofs.Common.{rules, tests}
 use Rattle.seqs.proofs.Says.{says_map}
 use Rattle.context.specs.Checked.{SpareAt}
-use Rattle.context.proofs.Every.{says_all}
+use Rattle.seqs.proofs.Each.{says_all}
 use Rattle.context.proofs.places_spare.Goals as goal
 
 pub returns : goal.returns

@@ -11,8 +11,8 @@ returns-then-taken-t c = full c.requires c.table_span-t.ensures c.taken.ensures 
 pub upcoming-requires : goal.upcoming-requires
 upcoming-requires c = packed c.requires c.table_span-t.ensures
 
-pub returns-then-upcoming-ge-LAST_NUMBER : goal.returns-then-upcoming-ge-LAST_NUMBER
-returns-then-upcoming-ge-LAST_NUMBER c = ran_out c.requires c.table_span-t.ensures c.taken.ensures c.upcoming.ensures (omega (arith, c.table_span-t.ensures.capacity, c.if-taken-t.false)) (λ h. omega (arith, h, c.if-upcoming-ge-LAST_NUMBER.true))
+pub returns-then-upcoming : goal.returns-then-upcoming
+returns-then-upcoming c = ran_out c.requires c.table_span-t.ensures c.taken.ensures c.upcoming.ensures (omega (arith, c.table_span-t.ensures.capacity, c.if-taken-t.false)) (λ h. omega (arith, h, c.if-upcoming.true))
 
 pub returns : goal.returns
-returns c = roomy c.requires c.table_span-t.ensures c.taken.ensures c.upcoming.ensures (omega (arith, c.table_span-t.ensures.capacity, c.if-taken-t.false)) (omega (arith, c.if-upcoming-ge-LAST_NUMBER.false))
+returns c = roomy c.requires c.table_span-t.ensures c.taken.ensures c.upcoming.ensures (omega (arith, c.table_span-t.ensures.capacity, c.if-taken-t.false)) (omega (arith, c.upcoming.type_inv, c.if-upcoming.false))

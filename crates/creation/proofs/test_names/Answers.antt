@@ -21,14 +21,14 @@ returns-in_err-look_up c =
     rw (p.1, p.2) (one_lost c.requires.sound_store (slot_of c.args.sl) (fields_of c.args.rec.now) (uses_from c.args.n (slot_of c.args.sl)) (uses_many c.args.n (slot_of c.args.sl))
     (uses_fit c.requires.sound_store (fields_of c.args.rec.now) c.requires.passed c.args.n c.requires.counts (slot_of c.args.sl)).0
     c.loop-j.j c.field-d.result (omega (arith, c.loop-j-test.true, c.uses_at-at.ensures.many)) c.loop-j.invariant (c.field-d.ensures ∙ ap (λ (a : ℕ). get_or (fields_of c.args.rec.now) (a + c.loop-j.j) 0) c.uses_at-at.ensures.from)
-    (kind_of c.definition.result) c.definition.ensures c.in_err-look_up.field-0.0 c.in_err-look_up.ensures)
+    (kind_of c.definition_kind.result) c.definition_kind.ensures c.in_err-look_up.field-0.0 c.in_err-look_up.ensures)
 
 pub loop-j-preserved : goal.loop-j-preserved
 loop-j-preserved c =
     one_more c.requires.sound_store (slot_of c.args.sl) (fields_of c.args.rec.now) (uses_from c.args.n (slot_of c.args.sl)) (uses_many c.args.n (slot_of c.args.sl))
     (uses_fit c.requires.sound_store (fields_of c.args.rec.now) c.requires.passed c.args.n c.requires.counts (slot_of c.args.sl)).0
     c.loop-j.j c.field-d.result (omega (arith, c.loop-j-test.true, c.uses_at-at.ensures.many)) c.loop-j.invariant (c.field-d.ensures ∙ ap (λ (a : ℕ). get_or (fields_of c.args.rec.now) (a + c.loop-j.j) 0) c.uses_at-at.ensures.from)
-    (kind_of c.definition.result) c.definition.ensures c.in_ok-look_up.field-0 c.in_ok-look_up.ensures
+    (kind_of c.definition_kind.result) c.definition_kind.ensures c.in_ok-look_up.field-0 c.in_ok-look_up.ensures
 
 pub returns : goal.returns
 returns c =

@@ -22,4 +22,4 @@ pub overflow_add-want : goal.overflow_add-want
 overflow_add-want c = omega (arith, (uses_fit c.requires.sound_store (fields_of c.args.rec.now) c.requires.passed c.args.n c.requires.counts successor).1)
 
 pub returns : goal.returns
-returns c = room_tested c.requires.sound_store (fields_of c.args.rec.now) c.requires.passed c.args.n c.requires.counts 0 c.in_ok-test_names.ensures refl 0 c.in_ok-test_names-2.ensures refl (code_of c.test_room.result) c.test_room.ensures
+returns c = room_tested c.requires.sound_store (fields_of c.args.rec.now) c.requires.passed c.args.n c.requires.counts 0 c.in_ok-test_names.ensures refl 0 c.in_ok-test_names-2.ensures refl (code_of c.test_room.result) (rw c.default.ensures.1.0 at c.test_room.ensures)

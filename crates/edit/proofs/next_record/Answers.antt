@@ -1,5 +1,5 @@
 -- The next record: a test of the length that fails breaks it. Assumes nothing.
-use Prim.Native.Nat.{ℕ, ◌+◌, ◌*◌}
+use Prim.Native.Nat.{ℕ}
 use native.Mathlib.Omega.{arith}
 use Rattle.edit.proofs.Cuts.{cut_none, cut_short, cut_bad, cut_good}
 use Rattle.edit.proofs.next_record.Goals as goal
@@ -14,7 +14,7 @@ returns-then-left-lt4 c = cut_short _ _ (omega (arith, c.saturating_sub-left.ens
 pub returns-then-n-lt4 : goal.returns-then-n-lt4
 returns-then-n-lt4 c =
     let s = c.args in
-    let n : ℕ = c.byte.result + 256 * c.byte-2.result in
+    let n : ℕ = c.from-n.result in
     let left = c.saturating_sub-left.ensures in
     cut_bad s.bytes.now s.at n (omega arith) (omega arith) (λ least most fours fits.
     elim c.then-n-lt4.branch [
@@ -27,6 +27,6 @@ returns-then-n-lt4 c =
 pub returns : goal.returns
 returns c =
     let s = c.args in
-    let n : ℕ = c.byte.result + 256 * c.byte-2.result in
+    let n : ℕ = c.from-n.result in
     let left = c.saturating_sub-left.ensures in
     cut_good s.bytes.now s.at n (omega arith) (omega arith) (omega arith) (omega arith) c.if-n-ne0.false (omega arith)

@@ -1,9 +1,8 @@
 -- Each kind's edit is the one that its arm carries out. Assumes nothing.
 use Rattle.std.proofs.Common.{rules}
 use Rattle.edit.specs.Taken.{fields_of}
-use Rattle.edit.specs.declared.Kind.TheVariants.{NewOperation, NewBlock, ReplaceSome, RetargetSome}
 use Rattle.edit.proofs.ByKind.{by_push_use, by_insert_use, by_replace_use, by_remove_use, by_pop_use, by_push_value, by_insert_value, by_remove_value, by_pop_value, by_link_after, by_link_before, by_link_front, by_link_back, by_unlink, by_move_region, by_move_use, by_drop_uses, by_verdict, by_erase_region}
-use Rattle.edits.proofs.ByKind.{same_edit, carried, by_erase, numbered}
+use Rattle.edits.proofs.ByKind.{same_edit, carried, by_erase}
 use Rattle.edits.proofs.Zeros.{to_walk, same_zeros}
 use Rattle.edits.proofs.perform.Goals as goal
 
@@ -20,16 +19,16 @@ pub erase_region-requires-clause-scratch : goal.erase_region-requires-clause-scr
 erase_region-requires-clause-scratch c = to_walk c.requires.scratch
 
 pub returns-in-NewOperation : goal.returns-in-NewOperation
-returns-in-NewOperation c = carried (numbered NewOperation (fields_of c.args.rec.now) c.in-NewOperation.is) c.new_operation.ensures
+returns-in-NewOperation c = carried (cc c.in-NewOperation.is) c.new_operation.ensures
 
 pub returns-in-NewBlock : goal.returns-in-NewBlock
-returns-in-NewBlock c = carried (numbered NewBlock (fields_of c.args.rec.now) c.in-NewBlock.is) c.new_block.ensures
+returns-in-NewBlock c = carried (cc c.in-NewBlock.is) c.new_block.ensures
 
 pub returns-in-ReplaceSome : goal.returns-in-ReplaceSome
-returns-in-ReplaceSome c = carried (numbered ReplaceSome (fields_of c.args.rec.now) c.in-ReplaceSome.is) c.replace_some.ensures
+returns-in-ReplaceSome c = carried (cc c.in-ReplaceSome.is) c.replace_some.ensures
 
 pub returns-in-RetargetSome : goal.returns-in-RetargetSome
-returns-in-RetargetSome c = carried (numbered RetargetSome (fields_of c.args.rec.now) c.in-RetargetSome.is) c.retarget_some.ensures
+returns-in-RetargetSome c = carried (cc c.in-RetargetSome.is) c.retarget_some.ensures
 
 pub returns-in-PushUse : goal.returns-in-PushUse
 returns-in-PushUse c = carried (cc (by_push_use (fields_of c.args.rec.now) c.in-PushUse.slot)) c.push_use.ensures

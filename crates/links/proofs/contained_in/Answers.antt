@@ -3,7 +3,7 @@ use Rattle.edit.specs.Kinds.{member_of}
 use Rattle.places.specs.Store.{Thing, Live}
 use Rattle.context.specs.Kinds.{fam_of}
 use Rattle.context.specs.Memory.{state_of}
-use Rattle.links.specs.Climbing.{thing_at}
+use Rattle.context.specs.Nest.{thing_at}
 use Rattle.links.proofs.Sorts.{inner<}
 use Rattle.links.proofs.Testing.{empty_member, not_inside, surely_inside, inside_by}
 use Rattle.links.proofs.contained_in.Goals as goal

@@ -1,18 +1,15 @@
 use Rattle.context.proofs.Places.{place<}
+use Rattle.context.specs.Nest.{thing_at}
 use Rattle.places.specs.Store.{reg}
-use Rattle.links.specs.Climbing.{thing_at}
 use Rattle.links.proofs.Climb.{region_met}
-use Rattle.links.proofs.Stepping.{region_on, region_end}
+use Rattle.links.proofs.Stepping.{region_from}
 use Rattle.links.proofs.region_step.Goals as goal
 
-pub returns-then-is : goal.returns-then-is
-returns-then-is c = region_met c.requires.sound_store.sound (thing_at c.args.x) c.args.r c.if-is.ensures
+pub returns-then-is_at : goal.returns-then-is_at
+returns-then-is_at c = region_met c.requires.sound_store.sound (thing_at c.args.x) c.args.r c.if-is_at.ensures
 
 pub home_of-requires-clause-n_bound : goal.home_of-requires-clause-n_bound
 home_of-requires-clause-n_bound c = place< c.requires.sound_store (reg, c.args.r) c.requires.live
 
-pub returns-in-Some : goal.returns-in-Some
-returns-in-Some c = region_on c.requires.sound_store (thing_at c.args.x) c.args.r c.in-Some.o c.if-is.ensures c.in-Some.ensures
-
-pub returns-in-None : goal.returns-in-None
-returns-in-None c = region_end c.requires.sound_store (thing_at c.args.x) c.args.r c.if-is.ensures c.in-None.ensures
+pub returns : goal.returns
+returns c = region_from c.requires.sound_store (thing_at c.args.x) c.args.r c.home_of.result c.map_or.result c.if-is_at.ensures c.home_of.ensures c.map_or.ensures

@@ -1,7 +1,7 @@
 use mathlib.Core.Path.{refl}
 use Rattle.std.proofs.Common.{rules, tests}
 use Rattle.sound_parts.specs.Tests.{MustAt}
-use Rattle.sound_parts.proofs.Loops.{says_all}
+use Rattle.seqs.proofs.Each.{says_all}
 use Rattle.sound_parts.proofs.check_must.Goals as goal
 
 pub returns : goal.returns

@@ -3,7 +3,7 @@ use Prim.Native.Nat.{◌≤◌}
 use lib.ListN.{length}
 use Rattle.std.proofs.Common.{rules, tests}
 use Rattle.linked_list.specs.Links.{row}
-use Rattle.sound_parts.proofs.Loops.{says_all}
+use Rattle.seqs.proofs.Each.{says_all}
 use Rattle.sound_parts.proofs.check_short.Goals as goal
 
 pub returns : goal.returns

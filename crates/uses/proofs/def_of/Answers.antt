@@ -1,12 +1,7 @@
-use native.Mathlib.Omega.{arith}
-use Rattle.uses.proofs.Looking.{value_found, block<, block_found}
+use Rattle.edit.specs.Kinds.{slot_of}
+use Rattle.places.specs.Roles.{def_kind}
+use Rattle.context.proofs.Places.{place<}
 use Rattle.uses.proofs.def_of.Goals as goal
 
-pub overflow_add-result : goal.overflow_add-result
-overflow_add-result c = omega (arith, c.requires.well.caps, block< c.requires c.args.number c.in_ok-look_up-in-Successor.field-0 c.in_ok-look_up-in-Successor.ensures)
-
-pub returns-in-Operand : goal.returns-in-Operand
-returns-in-Operand c = value_found c.requires c.args.number c.in-Operand.is _ c.look_up.ensures
-
-pub returns-in_ok-look_up-in-Successor : goal.returns-in_ok-look_up-in-Successor
-returns-in_ok-look_up-in-Successor c = block_found c.requires c.args.number c.in_ok-look_up-in-Successor.field-0 c.in_ok-look_up-in-Successor.ensures c.in-Successor.is
+pub use_set_of-requires-clause-p_bound : goal.use_set_of-requires-clause-p_bound
+use_set_of-requires-clause-p_bound c = place< c.requires (def_kind (slot_of c.args.sl), c.in_ok-p.p) (rw c.definition_kind.ensures at c.in_ok-p.ensures.0)

@@ -1,15 +1,8 @@
-use native.Mathlib.Omega.{arith}
-use Rattle.values.proofs.Looking.{results_at, block<, arguments_at}
+use Rattle.edit.specs.Kinds.{member_of}
+use Rattle.places.specs.Roles.{member_kind}
+use Rattle.context.proofs.Places.{place<}
 use Rattle.values.proofs.values_of.Goals as goal
 
-pub overflow_add-result : goal.overflow_add-result
-overflow_add-result c =
-    let h = c.in_ok-p.ensures in omega (arith, c.requires.well.caps, block< c.requires c.args.number _ c.from.ensures c.in-Block.is c.in_ok-p.p h.0)
-
-pub returns-in-Operation : goal.returns-in-Operation
-returns-in-Operation c =
-    let h = c.in_ok-p.ensures in results_at c.requires c.args.number _ c.from.ensures c.in-Operation.is c.in_ok-p.p h.0 h.1
-
-pub returns-in-Block : goal.returns-in-Block
-returns-in-Block c =
-    let h = c.in_ok-p.ensures in arguments_at c.requires c.args.number _ c.from.ensures c.in-Block.is c.in_ok-p.p h.0 h.1
+pub values_of-requires-clause-p_bound : goal.values_of-requires-clause-p_bound
+values_of-requires-clause-p_bound c =
+    let h = c.in_ok-p.ensures in place< c.requires (member_kind (member_of c.args.w), c.in_ok-p.p) (rw c.from.ensures at h.0)

@@ -2,7 +2,6 @@ use Prim.Native.Nat.{◌-◌}
 use Rattle.context.specs.Memory.{state_of}
 use Rattle.context.specs.Nest.{inner_fam}
 use Rattle.walk.specs.Tests.{stray_thing, marks_in}
-use Rattle.context.proofs.Cursor.{ahead}
 use Rattle.context.proofs.Search.{Searching}
 use Rattle.walk.proofs.Strays.{in_test}
 use Rattle.walk.proofs.+strays_within.Given as goal
@@ -10,8 +9,5 @@ use Rattle.walk.proofs.+strays_within.Given as goal
 abbrev pub decreases-strays_within : goal.decreases-strays_within
 decreases-strays_within l = l.n
 
-abbrev pub invariant-loop-next : goal.invariant-loop-next
-invariant-loop-next l = Searching l.l (inner_fam l.k) l.p l.m l.next (in_test (state_of l.l l.m) (stray_thing (state_of l.l l.m) (marks_in l.s)) (l.n - 1))
-
-abbrev pub decreases-loop-next : goal.decreases-loop-next
-decreases-loop-next l = ahead l.l (inner_fam l.k) l.p l.m l.next
+abbrev pub invariant-loop-c : goal.invariant-loop-c
+invariant-loop-c l = Searching l.l (inner_fam l.x.kind) l.x.place l.m l.c-iterator (in_test (state_of l.l l.m) (stray_thing (state_of l.l l.m) (marks_in l.s)) (l.n - 1))

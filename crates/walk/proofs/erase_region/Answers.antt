@@ -23,13 +23,13 @@ pub returns-then-row_length-index-clause-performed : goal.returns-then-row_lengt
 returns-then-row_length-index-clause-performed c =
     no_index c.requires.sound_store c.in_ok-o.o c.args.number c.args.index c.in_ok-o.ensures.0 c.in_ok-o.ensures.1 c.row_length.result c.row_length.ensures c.if-row_length-index.true
 
-pub nth_of-p-requires-clause-k_bound : goal.nth_of-p-requires-clause-k_bound
-nth_of-p-requires-clause-k_bound c = place< c.requires.sound_store (op, c.in_ok-o.o) c.in_ok-o.ensures.0
+pub nth_of-place-requires-clause-k_bound : goal.nth_of-place-requires-clause-k_bound
+nth_of-place-requires-clause-k_bound c = place< c.requires.sound_store (op, c.in_ok-o.o) c.in_ok-o.ensures.0
 
 pub erase_found-requires : goal.erase_found-requires
 erase_found-requires c =
-    (record { store = c.requires.sound_store; live = region_live c.requires.sound_store c.in_ok-o.o c.args.number c.args.index c.in_ok-o.ensures.0 c.in_ok-o.ensures.1 c.nth_of-p.result c.nth_of-p.ensures; long = c.requires.scratch.long }, c.requires.scratch.zeros)
+    (record { store = c.requires.sound_store; live = region_live c.requires.sound_store c.in_ok-o.o c.args.number c.args.index c.in_ok-o.ensures.0 c.in_ok-o.ensures.1 c.nth_of-place.result c.nth_of-place.ensures; long = c.requires.scratch.long }, c.requires.scratch.zeros)
 
 pub returns-clause-performed : goal.returns-clause-performed
 returns-clause-performed c =
-    did_erase_region c.requires.sound_store c.in_ok-o.o c.args.number c.args.index c.in_ok-o.ensures.0 c.in_ok-o.ensures.1 _ _ c.row_length.result c.nth_of-p.result c.row_length.ensures c.if-row_length-index.false c.nth_of-p.ensures c.erase_found.ensures.erase_answer
+    did_erase_region c.requires.sound_store c.in_ok-o.o c.args.number c.args.index c.in_ok-o.ensures.0 c.in_ok-o.ensures.1 _ _ c.row_length.result c.nth_of-place.result c.row_length.ensures c.if-row_length-index.false c.nth_of-place.ensures c.erase_found.ensures.erase_answer

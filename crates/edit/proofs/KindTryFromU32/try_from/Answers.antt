@@ -1,14 +1,18 @@
 -- The kind with a number. Assumes nothing.
-use native.Mathlib.Omega.{arith}
-use Rattle.std.proofs.Common.{refl, inl, inr, ◌-◌}
+use Rattle.std.proofs.Common.{sym, ap, subst, ◌∙◌, Err}
+use Rattle.std.proofs.lemmas.Result.{err_from_is_err_and}
+use Rattle.std.specs.Option.{ok_or}
 use Rattle.edit.specs.Kinds.{Names}
-use Rattle.edit.proofs.Numbers.{kind_at}
+use Rattle.edit.specs.declared.Refusal.TheVariants.{UnknownKind}
+use Rattle.edit.proofs.Numbers.{names_none, names_entry}
 use Rattle.edit.proofs.KindTryFromU32.try_from.Goals as goal
 
-pub returns-then-number-eq0 : goal.returns-then-number-eq0
-unfolding Names
-returns-then-number-eq0 c = (refl, elim c.then-number-eq0.either [ inl e ↦ inl e | inr e ↦ inr e.1 ])
+pub returns-in_err-index : goal.returns-in_err-index
+returns-in_err-index c =
+    let p = err_from_is_err_and c.from_residual.result c.from_residual.ensures.1 in
+    subst (Names c.args.number) (sym (p.1 ∙ ap Err p.2)) (names_none _ c.checked_sub.result _ c.checked_sub.ensures (sym c.in_err-index.ensures.value))
 
 pub returns : goal.returns
-unfolding Names
-returns c = omega (arith, kind_at (c.args.number - 1) (omega arith))
+returns c =
+    let copied = c.ok_or-2.ensures.value ∙ ap (λ o. ok_or o UnknownKind) c.copied.ensures in
+    subst (Names c.args.number) (sym copied) (names_entry _ _ _ _ c.checked_sub.ensures (sym c.in_ok-index.ensures.value) c.get.ensures.lookup)

@@ -1,8 +1,8 @@
 use Rattle.std.proofs.Common.{arith, sym, ap, ◌∙◌, Some}
 use mathlib.Core.Logic.{⊎_elim}
-use Rattle.linked_list.specs.Links.{code}
+use Rattle.seqs.specs.Cells.{code}
 use Rattle.linked_list.proofs.Checks.{part_more, along_more, at_node, row_fails, row_found}
-use Rattle.linked_list.proofs.Getters.{stored, stored_some, same, not_differ}
+use Rattle.seqs.proofs.Cells.{stored, stored_some, same, not_differ}
 use Rattle.linked_list.proofs.Lists.check_row.Goals as goal
 
 pub returns-then-j-b : goal.returns-then-j-b

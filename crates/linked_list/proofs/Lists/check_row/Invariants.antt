@@ -1,5 +1,5 @@
 use Rattle.std.proofs.Common.{◌-◌, ◌≤◌}
-use Rattle.linked_list.specs.Links.{code}
+use Rattle.seqs.specs.Cells.{code}
 use Rattle.linked_list.proofs.Checks.{Part, Along}
 use Rattle.linked_list.proofs.Lists.check_row.Given as goal
 

@@ -1,2 +1,0 @@
--- The replay of recorded scripts. Assumes nothing.
-pub mod Same

@@ -1,4 +1,0 @@
-use Rattle.sound_parts.proofs.Nest.+climbs.Given as goal
-
-abbrev pub decreases-climbs : goal.decreases-climbs
-decreases-climbs l = l.n

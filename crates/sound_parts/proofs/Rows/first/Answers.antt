@@ -1,5 +1,0 @@
-use Rattle.sound_parts.proofs.Truncated.{linked}
-use Rattle.sound_parts.proofs.Rows.first.Goals as goal
-
-pub get_head-requires-clause-linked : goal.get_head-requires-clause-linked
-get_head-requires-clause-linked c = linked _ _ _ c.args.self.now.linked

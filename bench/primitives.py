@@ -1,12 +1,13 @@
 #!/usr/bin/env python3
 """Writes a crate that exports look-ups and primitives of crate `context` under C names: each a call of the proved function, with what that one requires.
+A look-up is a method of `View`, which the exported function makes of the words and the layout.
 Arguments: the repository's folder, and the folder of a copy of it to which the crate is added."""
 import pathlib
 import re
 import sys
 
 CRATE = "primitives"
-# The one place that names what is measured. A function may stand in any module of crate `context`.
+# The one place that names what is measured. A function may stand in any module of crate `context`, or be a method of its `View`.
 NAMES = [
     "find", "home_of", "row_length", "first_of", "next_of", "last_of", "nth_of", "number_of", "live_count", "nth_live", "flags_of", "type_of", "room_for",
     "birth_use", "end_use", "move_use", "birth_op", "end_operation", "birth_block", "end_block", "birth_region", "end_region", "birth_value", "end_value",
@@ -30,10 +31,17 @@ RESULTS = {
 
 
 def heads(text):
-    """Each public function: name, parameters, result and what it requires, clause by clause."""
-    for m in re.finditer(r"^pub fn (\w+)\(([^)]*)\)(?: -> ([^\n]+))?\n((?:    .*\n)*)\{", text, re.M):
-        clauses = re.findall(r"^    \w.*\n(?:     .*\n|    [^\w ].*\n)*", m[4], re.M)
-        yield m[1], m[2], m[3], [c.rstrip("\n") for c in clauses if c.strip().startswith("requires")]
+    """Each public function or method: indent, name, parameters, result and what it requires, clause by clause."""
+    for m in re.finditer(r"^( *)pub fn (\w+)\(([^)]*)\)(?: -> ([^\n]+))?\n((?:\1    .*\n)*)\1\{", text, re.M):
+        lines = [line.removeprefix(m[1]) for line in m[5].splitlines(True)]
+        clauses = re.findall(r"^    \w.*\n(?:     .*\n|    [^\w ].*\n)*", "".join(lines), re.M)
+        yield m[1], m[2], m[3], m[4], [c.rstrip("\n") for c in clauses if c.strip().startswith("requires")]
+
+
+def of_words(parameters, requires):
+    """The parameters and the clauses of a method of `View` as those of a function of the words and the layout."""
+    told = [re.sub(r"^    requires \{", "    requires asked {", c.replace("self.now.words.now", "m.now").replace("self.now.layout", "l")) for c in requires]
+    return parameters.replace("&self", "m: &[u32], l: Layout"), ["    requires sound_store { SoundStore l m.now }", *told]
 
 
 def merged(imports):
@@ -46,6 +54,9 @@ def merged(imports):
 
 
 def wrapper(path, name, parameters, result, requires, choice=None):
+    method = parameters.startswith("&self")
+    if method:
+        parameters, requires = of_words(parameters, requires)
     kept, passed, clauses = [], [], requires
     for parameter in (p.strip() for p in parameters.split(",") if p.strip()):
         word, kind = (part.strip() for part in parameter.split(":", 1))
@@ -55,7 +66,7 @@ def wrapper(path, name, parameters, result, requires, choice=None):
         else:
             kept.append(parameter)
             passed.append(word)
-    call = f"{path}::{name}({', '.join(passed)})"
+    call = f"View {{ words: m, layout: l }}.{name}({', '.join(passed[2:])})" if method else f"{path}::{name}({', '.join(passed)})"
     body = f"    {call}" if result else f"    {call};"
     if result in RESULTS:
         body = f"    let r = {call};\n    {RESULTS[result][1]}"
@@ -71,15 +82,15 @@ def main(repository, copy):
     for file in sorted((repository / "crates/context/src").rglob("*.rt")):
         text = file.read_text()
         stems = [] if file.stem == "lib" else [file.stem]
-        for name, parameters, result, requires in heads(text):
-            if name in NAMES:
+        for indent, name, parameters, result, requires in heads(text):
+            if name in NAMES and (not indent or file.stem == "view"):
                 path, flat = "::".join(["context", *stems]), " ".join(parameters.split())
                 wrappers[name] = "\n\n".join(wrapper(path, name, flat, result, requires, choice) for choice in CHOICES.get(name, [None]))
                 uses += [line for line in text.splitlines() if line.startswith("ghost use")]
     missing = [name for name in NAMES if name not in wrappers]
     if missing:
         sys.exit(f"primitives.py: not found in crate context: {missing}")
-    head = ["// Look-ups and primitives under C names, to be timed.", "#![tactic(auto)]", "", *merged(uses), "", "use context::{Family, Kind, Layout};", "use edit::{Member, Refusal};", ""]
+    head = ["// Look-ups and primitives under C names, to be timed.", "#![tactic(auto)]", "", *merged(uses), "", "use context::view::View;", "use context::{Family, Kind, Layout};", "use edit::{Member, Refusal};", ""]
     source = copy / "crates" / CRATE / "src"
     source.mkdir(parents=True, exist_ok=True)
     (source / "lib.rt").write_text("\n".join(head) + "\n" + "\n\n".join(wrappers.values()) + "\n")

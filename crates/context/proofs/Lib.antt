@@ -27,3 +27,4 @@ pub mod Search
 pub mod Users
 pub mod Rest
 pub mod Calling
+pub mod Viewed

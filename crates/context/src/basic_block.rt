@@ -1,14 +1,10 @@
-// Blocks, after basic_block.rs of pliron 0.20.0 (Apache-2.0): birth, end, and whether all users are in blocks.
-ghost use Rattle.std.specs.Prelude.{◌≡◌};
-ghost use Rattle.places.specs.Store.{blk, Live};
-ghost use Rattle.places.specs.Verdict.{place_stray_user};
+// Blocks, after basic_block.rs of pliron 0.20.0 (Apache-2.0): birth and end.
+ghost use Rattle.places.specs.Store.{blk};
 ghost use Rattle.context.specs.Memory.{state_of, SoundStore, RoomFor};
 ghost use Rattle.context.specs.Steps.{BorneBlock, CanEnd, Ended};
 
 use super::lists::detach;
-use super::value::block_of;
-use super::{Family, Kind, Layout, any_of, bear, finish, use_set_of};
-use edit::Slot;
+use super::{Family, Kind, Layout, bear, finish};
 
 // A block is born, in no region and with empty lists.
 pub fn birth_block(m: &mut [u32], l: Layout) -> usize
@@ -27,19 +23,4 @@ pub fn end_block(m: &mut [u32], l: Layout, b: usize)
 {
     detach(m, l, Family::Blocks, b);
     finish(m, l, Kind::Block, b);
-}
-
-// Whether a user of the block at the place `b` is in no block.
-pub fn stray_user(m: &[u32], l: Layout, b: usize) -> bool
-    requires sound_store { SoundStore l m.now }
-    requires live { Live (state_of l m.now) (blk, b) }
-    ensures { result ≡ place_stray_user (state_of l m.now) (blk, b) }
-{
-    any_of(
-        m,
-        l,
-        Family::UseSets,
-        use_set_of(l, Slot::Successor, b),
-        |u| block_of(m, l, u).is_none(),
-    )
 }

@@ -4,7 +4,8 @@ ghost use Rattle.context.specs.Memory.{state_of, SoundStore};
 ghost use Rattle.context.specs.Steps.{CanHold, BorneRegion, CanEnd, Ended, SwappedOut, CanMoveRegion, MovedRegion};
 
 use super::lists::{detach, enter_back, enter_before, leave};
-use super::{Family, Kind, Layout, bear, finish, home_of, last_of};
+use super::view::View;
+use super::{Family, Kind, Layout, bear, finish};
 
 // A region is born, last in the operation at the place `o`.
 pub fn birth_region(m: &mut [u32], l: Layout, o: usize) -> usize
@@ -34,8 +35,12 @@ fn swap_out(m: &mut [u32], l: Layout, r: usize)
     requires live { Live (state_of l m.old) (reg, r) }
     ensures { SwappedOut l r m.old m.new }
 {
-    let o = home_of(m, l, Family::Regions, r).unwrap();
-    let last = last_of(m, l, Family::Regions, o).unwrap();
+    let v = View {
+        words: m,
+        layout: l,
+    };
+    let o = v.home_of(Family::Regions, r).unwrap();
+    let last = v.last_of(Family::Regions, o).unwrap();
     if last != r {
         leave(m, l, Family::Regions, last);
         enter_before(m, l, Family::Regions, r, last);

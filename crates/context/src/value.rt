@@ -1,13 +1,12 @@
 // Values and uses, after value.rs of pliron 0.20.0 (Apache-2.0): birth, end, type; a use stands in a list of the slots and in one use set.
-ghost use Rattle.std.specs.Prelude.{◌≡◌, ◌<◌};
+ghost use Rattle.std.specs.Prelude.{◌<◌};
 ghost use Rattle.places.specs.Store.{Live, val, usg, vals, use_sets, slots};
 ghost use Rattle.context.specs.Layout.{nc_of};
 ghost use Rattle.context.specs.Memory.{con, state_of, Well, SoundStore, MayTag, Tagged};
-ghost use Rattle.context.specs.Reading.{TagIs, DefinitionIs, UserIs, BlockOf};
 ghost use Rattle.context.specs.Steps.{CanMove, Moved, EndedUse, CanBear, BorneUse, Unused, EndedValue, CanBearValue, BorneValue};
 
 use super::lists::{enter_at, enter_back, leave};
-use super::{Family, Kind, Layout, bear, finish, home_of, number_of, types_at};
+use super::{Family, Kind, Layout, bear, finish, types_at};
 
 // The value at the place `p` gets the type `v`; at a free place it is 0.
 pub fn put_type(m: &mut [u32], l: Layout, p: usize, v: u32)
@@ -17,15 +16,6 @@ pub fn put_type(m: &mut [u32], l: Layout, p: usize, v: u32)
     ensures { Tagged l (val, p) v m.old m.new }
 {
     m[types_at(l) + p] = v;
-}
-
-// The type of the value at the place `p`.
-pub fn type_of(m: &[u32], l: Layout, p: usize) -> u32
-    requires well { Well l m.now }
-    requires p_lt_values { p < l.values }
-    ensures { TagIs l (val, p) m.now result }
-{
-    m[types_at(l) + p]
 }
 
 // A value of the type `t` is born at index `i` of the list `k` of results and arguments.
@@ -85,36 +75,4 @@ pub fn end_use(m: &mut [u32], l: Layout, u: usize)
     leave(m, l, Family::Slots, u);
     leave(m, l, Family::UseSets, u);
     finish(m, l, Kind::Use, u);
-}
-
-// The number of the value or of the block that the use at the place `u` is a use of.
-pub fn definition_number(m: &[u32], l: Layout, u: usize) -> u32
-    requires sound_store { SoundStore l m.now }
-    requires live { Live (state_of l m.now) (usg, u) }
-    ensures { DefinitionIs l u m.now result }
-{
-    let d = home_of(m, l, Family::UseSets, u).unwrap();
-    if d < l.values {
-        number_of(m, l, Kind::Value, d)
-    } else {
-        number_of(m, l, Kind::Block, d - l.values)
-    }
-}
-
-// The operation at which the use at the place `u` stands.
-pub fn user_of(m: &[u32], l: Layout, u: usize) -> usize
-    requires sound_store { SoundStore l m.now }
-    requires live { Live (state_of l m.now) (usg, u) }
-    ensures { UserIs l u m.now result }
-{
-    home_of(m, l, Family::Slots, u).unwrap() / 2
-}
-
-// The block of the operation at which the use at the place `u` stands.
-pub fn block_of(m: &[u32], l: Layout, u: usize) -> Option<usize>
-    requires sound_store { SoundStore l m.now }
-    requires live { Live (state_of l m.now) (usg, u) }
-    ensures { BlockOf l u m.now result }
-{
-    home_of(m, l, Family::Operations, user_of(m, l, u))
 }

@@ -8,6 +8,7 @@ ghost use Rattle.places.specs.Store.{vals, Live};
 ghost use Rattle.context.specs.Layout.{nc_of};
 ghost use Rattle.context.specs.Memory.{con, state_of, SoundStore};
 
+use context::view::View;
 use context::{Family, Kind, Layout};
 use edit::{Member, Refusal, Slot};
 use listing::Pen;
@@ -25,7 +26,11 @@ fn new_block(m: &mut [u32], l: Layout) -> Result<(), Refusal>
     requires { SoundStore l m.old }
     ensures { SoundStore l m.new }
 {
-    context::room_for(m, l, Kind::Block)?;
+    let view = View {
+        words: m,
+        layout: l,
+    };
+    view.room_for(Kind::Block)?;
     context::basic_block::birth_block(m, l);
     Ok(())
 }
@@ -35,7 +40,11 @@ fn new_operation(m: &mut [u32], l: Layout) -> Result<(), Refusal>
     requires { SoundStore l m.old }
     ensures { SoundStore l m.new }
 {
-    context::room_for(m, l, Kind::Operation)?;
+    let view = View {
+        words: m,
+        layout: l,
+    };
+    view.room_for(Kind::Operation)?;
     context::operation::birth_op(m, l, 0);
     Ok(())
 }
@@ -47,8 +56,12 @@ fn push_value(m: &mut [u32], l: Layout, k: usize, t: u32) -> Result<(), Refusal>
     requires live { Live (state_of l m.old) (con l vals k).1 }
     ensures { SoundStore l m.new }
 {
-    let n = context::row_length(m, l, Family::Values, k);
-    context::may_grow(m, l, Kind::Value, n, n)?;
+    let view = View {
+        words: m,
+        layout: l,
+    };
+    let n = view.row_length(Family::Values, k);
+    view.may_grow(Kind::Value, n, n)?;
     context::value::birth_value(m, l, k, n, t);
     Ok(())
 }
@@ -58,7 +71,11 @@ fn push_result(m: &mut [u32], l: Layout, x: u32, t: u32) -> Result<(), Refusal>
     requires { SoundStore l m.old }
     ensures { SoundStore l m.new }
 {
-    let o = context::look_up(m, l, Kind::Operation, x)?;
+    let view = View {
+        words: m,
+        layout: l,
+    };
+    let o = view.look_up(Kind::Operation, x)?;
     push_value(m, l, context::values_of(l, Member::Operation, o), t)
 }
 
@@ -67,7 +84,11 @@ fn push_argument(m: &mut [u32], l: Layout, x: u32, t: u32) -> Result<(), Refusal
     requires { SoundStore l m.old }
     ensures { SoundStore l m.new }
 {
-    let b = context::look_up(m, l, Kind::Block, x)?;
+    let view = View {
+        words: m,
+        layout: l,
+    };
+    let b = view.look_up(Kind::Block, x)?;
     push_value(m, l, context::values_of(l, Member::Block, b), t)
 }
 
@@ -76,12 +97,16 @@ fn push_operand(m: &mut [u32], l: Layout, x: u32, y: u32) -> Result<(), Refusal>
     requires { SoundStore l m.old }
     ensures { SoundStore l m.new }
 {
-    let o = context::look_up(m, l, Kind::Operation, x)?;
-    let v = context::look_up(m, l, Kind::Value, y)?;
+    let view = View {
+        words: m,
+        layout: l,
+    };
+    let o = view.look_up(Kind::Operation, x)?;
+    let v = view.look_up(Kind::Value, y)?;
     let s = context::slots_of(l, Slot::Operand, o);
     let d = context::use_set_of(l, Slot::Operand, v);
-    let n = context::row_length(m, l, Family::Slots, s);
-    context::may_grow(m, l, Kind::Use, n, n)?;
+    let n = view.row_length(Family::Slots, s);
+    view.may_grow(Kind::Use, n, n)?;
     context::value::birth_use(m, l, s, n, d);
     Ok(())
 }
@@ -91,12 +116,16 @@ fn end_operand(m: &mut [u32], l: Layout, x: u32, i: usize) -> Result<(), Refusal
     requires { SoundStore l m.old }
     ensures { SoundStore l m.new }
 {
-    let o = context::look_up(m, l, Kind::Operation, x)?;
+    let view = View {
+        words: m,
+        layout: l,
+    };
+    let o = view.look_up(Kind::Operation, x)?;
     let s = context::slots_of(l, Slot::Operand, o);
-    if i >= context::row_length(m, l, Family::Slots, s) {
+    if i >= view.row_length(Family::Slots, s) {
         return Err(Refusal::NoIndex);
     }
-    let u = context::nth_of(m, l, Family::Slots, s, i);
+    let u = view.nth_of(Family::Slots, s, i);
     context::value::end_use(m, l, u);
     Ok(())
 }
@@ -107,12 +136,16 @@ fn put_into(m: &mut [u32], l: Layout, x: u32, y: u32) -> Result<(), Refusal>
     requires { SoundStore l m.old }
     ensures { SoundStore l m.new }
 {
-    let o = context::look_up(m, l, Kind::Operation, x)?;
-    let b = context::look_up(m, l, Kind::Block, y)?;
-    if context::home_of(m, l, Family::Operations, o).is_some() {
+    let view = View {
+        words: m,
+        layout: l,
+    };
+    let o = view.look_up(Kind::Operation, x)?;
+    let b = view.look_up(Kind::Block, y)?;
+    if view.home_of(Family::Operations, o).is_some() {
         return Err(Refusal::Linked);
     }
-    if context::home_of(m, l, Family::Blocks, b).is_some() {
+    if view.home_of(Family::Blocks, b).is_some() {
         return Err(Refusal::Linked);
     }
     context::lists::link_back(m, l, Member::Operation, b, o);
@@ -186,7 +219,11 @@ fn print_listing(rt: &impl Print, m: &[u32], l: Layout) -> io::Result<()>
         out: &mut out,
         at: 0,
     };
-    listing::write_listing(m, l, &mut pen);
+    let v = View {
+        words: m,
+        layout: l,
+    };
+    listing::write_listing(&v, &mut pen);
     let end = pen.at.min(1024);
     rt.write_all(&out[..end])
 }

@@ -7,11 +7,12 @@ ghost use Rattle.edit.specs.Kinds.{slot_of, code_of, kind_number};
 ghost use Rattle.edit.specs.Taken.{fields_of, edit_by, Passed};
 ghost use Rattle.edit.specs.declared.Kind.TheVariants.{NewOperation, NewBlock};
 ghost use Rattle.context.specs.Kinds.{kind_of};
-ghost use Rattle.context.specs.Memory.{Well, SoundStore};
+ghost use Rattle.context.specs.Memory.{SoundStore};
 ghost use Rattle.context.specs.Performed.{Performed};
 ghost use Rattle.creation.specs.Room.{five_of, over, ByKind, spare, left, RoomIs};
 ghost use Rattle.creation.specs.Made.{NamesIs, Counts, UsesAt, OperationTested, CanUse, Used, grown, with_uses, uses_from, uses_many, Underway, Onward};
 
+use context::view::View;
 use context::{Kind, Layout};
 use edit::{Answer, Member, Refusal, Slot};
 
@@ -87,31 +88,28 @@ impl Parts {
 }
 
 // How many places of the kind `k` are free.
-fn free_places(m: &[u32], l: Layout, k: Kind) -> usize
-    requires { Well l m.now }
-    ensures { result ≡ spare l m.now (kind_of k) }
+fn free_places(v: &View, k: Kind) -> usize
+    ensures { result ≡ spare v.now.layout v.now.words.now (kind_of k) }
 {
-    context::table_span(l, k).places - context::live_count(m, l, k)
+    context::table_span(v.layout, k).places - v.live_count(k)
 }
 
 // How many numbers of the kind `k` are left.
-fn free_numbers(m: &[u32], l: Layout, k: Kind) -> usize
-    requires { Well l m.now }
-    ensures { result ≡ left l m.now (kind_of k) }
+fn free_numbers(v: &View, k: Kind) -> usize
+    ensures { result ≡ left v.now.layout v.now.words.now (kind_of k) }
 {
-    (u32::MAX - context::next_number(m, l, k)) as usize
+    (u32::MAX - v.next_number(k)) as usize
 }
 
 // Refused where places are wanting (20), and where numbers are (21).
-fn test_room(m: &[u32], l: Layout, want: Five) -> Result<(), Refusal>
-    requires { SoundStore l m.now }
-    ensures { RoomIs l (five_of want) m.now (code_of result) }
+fn test_room(v: &View, want: Five) -> Result<(), Refusal>
+    ensures { RoomIs v.now.layout (five_of want) v.now.words.now (code_of result) }
 {
-    let places = Five::by(|k| free_places(m, l, k));
+    let places = Five::by(|k| free_places(v, k));
     if want.over(places) {
         return Err(Refusal::NoPlace);
     }
-    let numbers = Five::by(|k| free_numbers(m, l, k));
+    let numbers = Five::by(|k| free_numbers(v, k));
     if want.over(numbers) {
         return Err(Refusal::NoNumber);
     }
@@ -130,8 +128,12 @@ pub fn new_block(m: &mut [u32], l: Layout, rec: &[u8]) -> Answer
         values: n,
         ..Five::default()
     };
-    test_room(m, l, want)?;
-    let x = context::next_number(m, l, Kind::Block);
+    let v = View {
+        words: m,
+        layout: l,
+    };
+    test_room(&v, want)?;
+    let x = v.next_number(Kind::Block);
     let b = context::basic_block::birth_block(m, l);
     let k = context::values_of(l, Member::Block, b);
     for j in 0..n {
@@ -142,29 +144,27 @@ pub fn new_block(m: &mut [u32], l: Layout, rec: &[u8]) -> Answer
 }
 
 // Refused where one of the definitions that a new operation's record lists for a slot is not there.
-fn test_names(m: &[u32], l: Layout, rec: &[u8], n: Parts, sl: Slot) -> Result<(), Refusal>
-    requires sound_store { SoundStore l m.now }
+fn test_names(v: &View, rec: &[u8], n: Parts, sl: Slot) -> Result<(), Refusal>
     requires passed { Passed (kind_number NewOperation) (fields_of rec.now) }
     requires counts { Counts (fields_of rec.now) n }
-    ensures { NamesIs l (slot_of sl) (fields_of rec.now) (uses_from n (slot_of sl)) (uses_many n (slot_of sl)) m.now (code_of result) }
+    ensures { NamesIs v.now.layout (slot_of sl) (fields_of rec.now) (uses_from n (slot_of sl)) (uses_many n (slot_of sl)) v.now.words.now (code_of result) }
 {
     let (at, many) = n.uses_at(sl);
     for j in 0..many {
         let d = edit::field(rec, at + j);
-        context::look_up(m, l, context::definition_kind(sl), d)?;
+        v.look_up(context::definition_kind(sl), d)?;
     }
     Ok(())
 }
 
 // The tests of a new operation whose record lists so many.
-fn test_operation(m: &[u32], l: Layout, rec: &[u8], n: Parts) -> Result<(), Refusal>
-    requires sound_store { SoundStore l m.now }
+fn test_operation(v: &View, rec: &[u8], n: Parts) -> Result<(), Refusal>
     requires passed { Passed (kind_number NewOperation) (fields_of rec.now) }
     requires counts { Counts (fields_of rec.now) n }
-    ensures { OperationTested l (fields_of rec.now) n m.now (code_of result) }
+    ensures { OperationTested v.now.layout (fields_of rec.now) n v.now.words.now (code_of result) }
 {
-    test_names(m, l, rec, n, Slot::Operand)?;
-    test_names(m, l, rec, n, Slot::Successor)?;
+    test_names(v, rec, n, Slot::Operand)?;
+    test_names(v, rec, n, Slot::Successor)?;
     let want = Five {
         operations: 1,
         regions: n.regions,
@@ -172,7 +172,7 @@ fn test_operation(m: &[u32], l: Layout, rec: &[u8], n: Parts) -> Result<(), Refu
         uses: n.operands + n.successors,
         ..Five::default()
     };
-    test_room(m, l, want)
+    test_room(v, want)
 }
 
 // The results of a new operation at `o` are born.
@@ -193,7 +193,11 @@ fn bear_use(m: &mut [u32], l: Layout, sl: Slot, o: usize, i: usize, d: u32)
     requires can_use { CanUse l (slot_of sl) o d m.old }
     ensures { Used l (slot_of sl) o i d m.old m.new }
 {
-    let p = context::find(m, l, context::definition_kind(sl), d).unwrap();
+    let v = View {
+        words: m,
+        layout: l,
+    };
+    let p = v.find(context::definition_kind(sl), d).unwrap();
     let s = context::slots_of(l, sl, o);
     let k = context::use_set_of(l, sl, p);
     context::value::birth_use(m, l, s, i, k);
@@ -218,8 +222,12 @@ pub fn new_operation(m: &mut [u32], l: Layout, rec: &[u8]) -> Answer
     ensures { Performed l (edit_by NewOperation (fields_of rec.now)) m.old m.new result }
 {
     let n = Parts::of(rec);
-    test_operation(m, l, rec, n)?;
-    let x = context::next_number(m, l, Kind::Operation);
+    let v = View {
+        words: m,
+        layout: l,
+    };
+    test_operation(&v, rec, n)?;
+    let x = v.next_number(Kind::Operation);
     let o = context::operation::birth_op(m, l, edit::field(rec, 0));
     bear_results(m, l, rec, n, o);
     bear_uses(m, l, rec, n, Slot::Operand, o);

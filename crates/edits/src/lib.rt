@@ -7,6 +7,7 @@ ghost use Rattle.context.specs.Memory.{SoundStore};
 ghost use Rattle.edits.specs.Scratch.{Scratch, PerformedWith};
 
 use context::Layout;
+use context::view::View;
 use edit::{Answer, Kind};
 
 // Puts the edit of a record that was read to the store.
@@ -44,6 +45,12 @@ pub fn perform(m: &mut [u32], scratch: &mut [u32], l: Layout, rec: &[u8], kind: 
         Kind::Erase(member) => walk::erase(m, l, scratch, member, a),
         // Kept (point 4): u32 to usize has no From; a narrower parameter there would ask more.
         Kind::EraseRegion => walk::erase_region(m, l, scratch, a, b as usize),
-        Kind::Verdict(thing) => walk::verdict(m, l, thing, a),
+        Kind::Verdict(thing) => {
+            let v = View {
+                words: m,
+                layout: l,
+            };
+            walk::verdict(&v, thing, a)
+        }
     }
 }

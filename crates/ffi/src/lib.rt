@@ -11,6 +11,7 @@ ghost use Rattle.readers.specs.UsesOf.{count_in};
 ghost use Rattle.ffi.specs.Called.{layout_by, WordsCalled, ToldAnswer, EditCalled, ScriptCalled, Listed, UsesCalled};
 
 use context::Layout;
+use context::view::View;
 use edit::{Answer, Refusal};
 use listing::Pen;
 use readers::Definition;
@@ -132,13 +133,16 @@ pub extern "C" fn recipe_listing(
     if !sound::check(store) {
         return u32::from(Refusal::Unsound);
     }
-    let l = context::layout_of(store);
+    let v = View {
+        words: store,
+        layout: context::layout_of(store),
+    };
     if answers.len() / 3 > u32::MAX as usize {
         return u32::from(Refusal::NoRoom);
     }
     let mut pen = Pen { out, at: 0 };
     listing::write_answers(answers, &mut pen);
-    listing::write_listing(store, l, &mut pen);
+    listing::write_listing(&v, &mut pen);
     *length = pen.at as u64;
     0
 }

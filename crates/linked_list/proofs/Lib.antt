@@ -5,3 +5,4 @@ pub mod Moves
 pub mod Along
 pub mod Checks
 pub mod Index
+pub mod Truncated

@@ -19,6 +19,7 @@ ghost use Rattle.links.specs.Climbing.{climbed, thrice, StepIs, container_steps}
 ghost use Rattle.links.specs.Tests.{EnterTested, BesideTested};
 ghost use Rattle.links.specs.Moving.{MayMove, MoveTested};
 
+use context::view::View;
 use context::{Family, Kind, Layout, Thing};
 use edit::{Answer, MOST_LISTED, Member, Nested, Refusal};
 
@@ -59,49 +60,45 @@ fn is_at(x: Thing, kind: Nested, place: usize) -> bool
 }
 
 // From the region at `r` up to its operation, unless the region is `x`.
-fn region_step(m: &[u32], l: Layout, x: Thing, r: usize) -> Step
-    requires sound_store { SoundStore l m.now }
-    requires live { Live (state_of l m.now) (reg, r) }
-    ensures { StepIs (state_of l m.now) (thing_at x) (reg, r) (λ n. suc n) result }
+fn region_step(v: &View, x: Thing, r: usize) -> Step
+    requires { Live (state_of v.now.layout v.now.words.now) (reg, r) }
+    ensures { StepIs (state_of v.now.layout v.now.words.now) (thing_at x) (reg, r) (λ n. suc n) result }
 {
     if is_at(x, Nested::Region, r) {
         return Step::Met;
     }
-    context::home_of(m, l, Family::Regions, r).map_or(Step::Ended, Step::At)
+    v.home_of(Family::Regions, r).map_or(Step::Ended, Step::At)
 }
 
 // The same from the block at `b`, over its region; a block in none is an end.
-fn block_step(m: &[u32], l: Layout, x: Thing, b: usize) -> Step
-    requires sound_store { SoundStore l m.now }
-    requires live { Live (state_of l m.now) (blk, b) }
-    ensures { StepIs (state_of l m.now) (thing_at x) (blk, b) (λ n. suc (suc n)) result }
+fn block_step(v: &View, x: Thing, b: usize) -> Step
+    requires { Live (state_of v.now.layout v.now.words.now) (blk, b) }
+    ensures { StepIs (state_of v.now.layout v.now.words.now) (thing_at x) (blk, b) (λ n. suc (suc n)) result }
 {
     if is_at(x, Nested::Block, b) {
         return Step::Met;
     }
-    let Some(r) = context::home_of(m, l, Family::Blocks, b) else {
+    let Some(r) = v.home_of(Family::Blocks, b) else {
         return Step::Ended;
     };
-    region_step(m, l, x, r)
+    region_step(v, x, r)
 }
 
 // The same from the container at `c`, a block or a region.
-fn container_step(m: &[u32], l: Layout, w: Member, x: Thing, c: usize) -> Step
-    requires sound_store { SoundStore l m.now }
-    requires live { Live (state_of l m.now) (container_at (member_of w) c) }
-    ensures { StepIs (state_of l m.now) (thing_at x) (container_at (member_of w) c) (container_steps (member_of w)) result }
+fn container_step(v: &View, w: Member, x: Thing, c: usize) -> Step
+    requires { Live (state_of v.now.layout v.now.words.now) (container_at (member_of w) c) }
+    ensures { StepIs (state_of v.now.layout v.now.words.now) (thing_at x) (container_at (member_of w) c) (container_steps (member_of w)) result }
 {
     match w {
-        Member::Operation => block_step(m, l, x, c),
-        Member::Block => region_step(m, l, x, c),
+        Member::Operation => block_step(v, x, c),
+        Member::Block => region_step(v, x, c),
     }
 }
 
 // Whether the operation at `o` is `x`, or lies in it: climbs from parent to parent.
-fn operation_in(m: &[u32], l: Layout, x: Thing, o: usize, depth: usize) -> bool
-    requires sound_store { SoundStore l m.now }
-    requires live { Live (state_of l m.now) (op, o) }
-    ensures { Says result (0 < climbed (up (state_of l m.now)) (thrice depth) (thing_at x) (op, o)) }
+fn operation_in(v: &View, x: Thing, o: usize, depth: usize) -> bool
+    requires { Live (state_of v.now.layout v.now.words.now) (op, o) }
+    ensures { Says result (0 < climbed (up (state_of v.now.layout v.now.words.now)) (thrice depth) (thing_at x) (op, o)) }
 {
     if depth == 0 {
         return false;
@@ -109,45 +106,43 @@ fn operation_in(m: &[u32], l: Layout, x: Thing, o: usize, depth: usize) -> bool
     if is_at(x, Nested::Operation, o) {
         return true;
     }
-    let Some(b) = context::home_of(m, l, Family::Operations, o) else {
+    let Some(b) = v.home_of(Family::Operations, o) else {
         return false;
     };
-    match block_step(m, l, x, b) {
+    match block_step(v, x, b) {
         Step::Ended => false,
         Step::Met => true,
-        Step::At(p) => operation_in(m, l, x, p, depth - 1),
+        Step::At(p) => operation_in(v, x, p, depth - 1),
     }
 }
 
 // Whether the container at `c` lies in the member at `n`. A member that holds nothing needs no climb.
-fn contained_in(m: &[u32], l: Layout, w: Member, n: usize, c: usize) -> bool
-    requires sound_store { SoundStore l m.now }
-    requires live { Live (state_of l m.now) (member_at (member_of w) n) }
-    requires live_2 { Live (state_of l m.now) (container_at (member_of w) c) }
-    ensures { Says result (0 < count Thing-dec (container_at (member_of w) c) (walk (state_of l m.now) (member_at (member_of w) n))) }
+fn contained_in(v: &View, w: Member, n: usize, c: usize) -> bool
+    requires live { Live (state_of v.now.layout v.now.words.now) (member_at (member_of w) n) }
+    requires live_2 { Live (state_of v.now.layout v.now.words.now) (container_at (member_of w) c) }
+    ensures { Says result (0 < count Thing-dec (container_at (member_of w) c) (walk (state_of v.now.layout v.now.words.now) (member_at (member_of w) n))) }
 {
     let x = member(w, n);
-    if context::first_of(m, l, Family::from(x.kind), x.place).is_none() {
+    if v.first_of(Family::from(x.kind), x.place).is_none() {
         return false;
     }
-    match container_step(m, l, w, x, c) {
+    match container_step(v, w, x, c) {
         Step::Ended => false,
         Step::Met => true,
-        Step::At(o) => operation_in(m, l, x, o, context::live_count(m, l, Kind::Operation)),
+        Step::At(o) => operation_in(v, x, o, v.live_count(Kind::Operation)),
     }
 }
 
 // Refused where the member at `n` is linked already (15), and where the container at `c` lies in it (17).
-fn may_enter(m: &[u32], l: Layout, w: Member, n: usize, c: usize) -> Result<(), Refusal>
-    requires sound_store { SoundStore l m.now }
-    requires live { Live (state_of l m.now) (member_at (member_of w) n) }
-    requires live_2 { Live (state_of l m.now) (container_at (member_of w) c) }
-    ensures { code_of result ≡ enter_code (state_of l m.now) (member_of w) n c }
+fn may_enter(v: &View, w: Member, n: usize, c: usize) -> Result<(), Refusal>
+    requires live { Live (state_of v.now.layout v.now.words.now) (member_at (member_of w) n) }
+    requires live_2 { Live (state_of v.now.layout v.now.words.now) (container_at (member_of w) c) }
+    ensures { code_of result ≡ enter_code (state_of v.now.layout v.now.words.now) (member_of w) n c }
 {
-    if context::home_of(m, l, Family::from(w), n).is_some() {
+    if v.home_of(Family::from(w), n).is_some() {
         return Err(Refusal::Linked);
     }
-    if contained_in(m, l, w, n, c) {
+    if contained_in(v, w, n, c) {
         return Err(Refusal::InsideItself);
     }
     Ok(())
@@ -155,47 +150,38 @@ fn may_enter(m: &[u32], l: Layout, w: Member, n: usize, c: usize) -> Result<(), 
 
 // Refused where the member at `n` is linked already (15), where the mark at `k` is not (16), and where the mark's container lies
 // in the member (17).
-fn may_stand_by(m: &[u32], l: Layout, w: Member, n: usize, k: usize) -> Result<(), Refusal>
-    requires sound_store { SoundStore l m.now }
-    requires live { Live (state_of l m.now) (member_at (member_of w) n) }
-    requires live_2 { Live (state_of l m.now) (member_at (member_of w) k) }
-    ensures { code_of result ≡ beside_code (state_of l m.now) (member_of w) n k }
+fn may_stand_by(v: &View, w: Member, n: usize, k: usize) -> Result<(), Refusal>
+    requires live { Live (state_of v.now.layout v.now.words.now) (member_at (member_of w) n) }
+    requires live_2 { Live (state_of v.now.layout v.now.words.now) (member_at (member_of w) k) }
+    ensures { code_of result ≡ beside_code (state_of v.now.layout v.now.words.now) (member_of w) n k }
 {
-    if context::home_of(m, l, Family::from(w), n).is_some() {
+    if v.home_of(Family::from(w), n).is_some() {
         return Err(Refusal::Linked);
     }
-    let c = context::home_of(m, l, Family::from(w), k).ok_or(Refusal::Unlinked)?;
-    if contained_in(m, l, w, n, c) {
+    let c = v.home_of(Family::from(w), k).ok_or(Refusal::Unlinked)?;
+    if contained_in(v, w, n, c) {
         return Err(Refusal::InsideItself);
     }
     Ok(())
 }
 
 // The tests of the edits that put a member at the front or at the back of a container: the places of the two.
-fn test_enter(m: &[u32], l: Layout, w: Member, x: u32, c: u32) -> Result<(usize, usize), Refusal>
-    requires { SoundStore l m.now }
-    ensures { EnterTested l (member_of w) x c m.now result }
+fn test_enter(v: &View, w: Member, x: u32, c: u32) -> Result<(usize, usize), Refusal>
+    ensures { EnterTested v.now.layout (member_of w) x c v.now.words.now result }
 {
-    let n = context::look_up(m, l, Kind::from(w), x)?;
-    let k = context::look_up(m, l, container(w), c)?;
-    may_enter(m, l, w, n, k)?;
+    let n = v.look_up(Kind::from(w), x)?;
+    let k = v.look_up(container(w), c)?;
+    may_enter(v, w, n, k)?;
     Ok((n, k))
 }
 
 // The tests of the edits that put a member after or before a mark: the places of the two.
-fn test_beside(
-    m: &[u32],
-    l: Layout,
-    w: Member,
-    x: u32,
-    mark: u32,
-) -> Result<(usize, usize), Refusal>
-    requires { SoundStore l m.now }
-    ensures { BesideTested l (member_of w) x mark m.now result }
+fn test_beside(v: &View, w: Member, x: u32, mark: u32) -> Result<(usize, usize), Refusal>
+    ensures { BesideTested v.now.layout (member_of w) x mark v.now.words.now result }
 {
-    let n = context::look_up(m, l, Kind::from(w), x)?;
-    let k = context::look_up(m, l, Kind::from(w), mark)?;
-    may_stand_by(m, l, w, n, k)?;
+    let n = v.look_up(Kind::from(w), x)?;
+    let k = v.look_up(Kind::from(w), mark)?;
+    may_stand_by(v, w, n, k)?;
     Ok((n, k))
 }
 
@@ -205,7 +191,11 @@ pub fn link_front(m: &mut [u32], l: Layout, w: Member, x: u32, c: u32) -> Answer
     requires { SoundStore l m.old }
     ensures { Performed l (link_front (member_of w) x c) m.old m.new result }
 {
-    let (n, k) = test_enter(m, l, w, x, c)?;
+    let v = View {
+        words: m,
+        layout: l,
+    };
+    let (n, k) = test_enter(&v, w, x, c)?;
     context::lists::link_front(m, l, w, k, n);
     Ok((0, 0))
 }
@@ -215,7 +205,11 @@ pub fn link_back(m: &mut [u32], l: Layout, w: Member, x: u32, c: u32) -> Answer
     requires { SoundStore l m.old }
     ensures { Performed l (link_back (member_of w) x c) m.old m.new result }
 {
-    let (n, k) = test_enter(m, l, w, x, c)?;
+    let v = View {
+        words: m,
+        layout: l,
+    };
+    let (n, k) = test_enter(&v, w, x, c)?;
     context::lists::link_back(m, l, w, k, n);
     Ok((0, 0))
 }
@@ -226,7 +220,11 @@ pub fn link_after(m: &mut [u32], l: Layout, w: Member, x: u32, mark: u32) -> Ans
     requires { SoundStore l m.old }
     ensures { Performed l (link_after (member_of w) x mark) m.old m.new result }
 {
-    let (n, k) = test_beside(m, l, w, x, mark)?;
+    let v = View {
+        words: m,
+        layout: l,
+    };
+    let (n, k) = test_beside(&v, w, x, mark)?;
     context::lists::link_after(m, l, w, k, n);
     Ok((0, 0))
 }
@@ -236,7 +234,11 @@ pub fn link_before(m: &mut [u32], l: Layout, w: Member, x: u32, mark: u32) -> An
     requires { SoundStore l m.old }
     ensures { Performed l (link_before (member_of w) x mark) m.old m.new result }
 {
-    let (n, k) = test_beside(m, l, w, x, mark)?;
+    let v = View {
+        words: m,
+        layout: l,
+    };
+    let (n, k) = test_beside(&v, w, x, mark)?;
     context::lists::link_before(m, l, w, k, n);
     Ok((0, 0))
 }
@@ -246,8 +248,12 @@ pub fn unlink_from(m: &mut [u32], l: Layout, w: Member, x: u32) -> Answer
     requires { SoundStore l m.old }
     ensures { Performed l (unlink (member_of w) x) m.old m.new result }
 {
-    let n = context::look_up(m, l, Kind::from(w), x)?;
-    if context::home_of(m, l, Family::from(w), n).is_none() {
+    let v = View {
+        words: m,
+        layout: l,
+    };
+    let n = v.look_up(Kind::from(w), x)?;
+    if v.home_of(Family::from(w), n).is_none() {
         return Err(Refusal::Unlinked);
     }
     context::lists::unlink(m, l, w, n);
@@ -256,36 +262,34 @@ pub fn unlink_from(m: &mut [u32], l: Layout, w: Member, x: u32) -> Answer
 
 // Refused where the operation at `k` lies in the region at `n` (17) and where it has regions enough (19), but never for the
 // region's own operation.
-fn may_move(m: &[u32], l: Layout, n: usize, k: usize) -> Result<(), Refusal>
-    requires sound_store { SoundStore l m.now }
-    requires live { Live (state_of l m.now) (reg, n) }
-    requires live_2 { Live (state_of l m.now) (op, k) }
-    ensures { MayMove (state_of l m.now) n k (code_of result) }
+fn may_move(v: &View, n: usize, k: usize) -> Result<(), Refusal>
+    requires live { Live (state_of v.now.layout v.now.words.now) (reg, n) }
+    requires live_2 { Live (state_of v.now.layout v.now.words.now) (op, k) }
+    ensures { MayMove (state_of v.now.layout v.now.words.now) n k (code_of result) }
 {
-    if context::home_of(m, l, Family::Regions, n) == Some(k) {
+    if v.home_of(Family::Regions, n) == Some(k) {
         return Ok(());
     }
     let x = Thing {
         kind: Nested::Region,
         place: n,
     };
-    if operation_in(m, l, x, k, context::live_count(m, l, Kind::Operation)) {
+    if operation_in(v, x, k, v.live_count(Kind::Operation)) {
         return Err(Refusal::InsideItself);
     }
-    if context::row_length(m, l, Family::Regions, k) >= MOST_LISTED {
+    if v.row_length(Family::Regions, k) >= MOST_LISTED {
         return Err(Refusal::ListFull);
     }
     Ok(())
 }
 
 // The tests of the move of a region: its place, and the operation's.
-fn test_move(m: &[u32], l: Layout, r: u32, o: u32) -> Result<(usize, usize), Refusal>
-    requires { SoundStore l m.now }
-    ensures { MoveTested l r o m.now result }
+fn test_move(v: &View, r: u32, o: u32) -> Result<(usize, usize), Refusal>
+    ensures { MoveTested v.now.layout r o v.now.words.now result }
 {
-    let n = context::look_up(m, l, Kind::Region, r)?;
-    let k = context::look_up(m, l, Kind::Operation, o)?;
-    may_move(m, l, n, k)?;
+    let n = v.look_up(Kind::Region, r)?;
+    let k = v.look_up(Kind::Operation, o)?;
+    may_move(v, n, k)?;
     Ok((n, k))
 }
 
@@ -294,8 +298,12 @@ pub fn move_region(m: &mut [u32], l: Layout, r: u32, o: u32) -> Answer
     requires { SoundStore l m.old }
     ensures { Performed l (move_region r o) m.old m.new result }
 {
-    let (n, k) = test_move(m, l, r, o)?;
-    if context::home_of(m, l, Family::Regions, n) != Some(k) {
+    let v = View {
+        words: m,
+        layout: l,
+    };
+    let (n, k) = test_move(&v, r, o)?;
+    if v.home_of(Family::Regions, n) != Some(k) {
         context::region::move_region(m, l, n, k);
     }
     Ok((0, 0))

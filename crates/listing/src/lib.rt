@@ -10,12 +10,13 @@ ghost use Rattle.rules.specs.Listing as rules;
 ghost use Rattle.context.specs.Kinds.{kind_of, fam_of};
 ghost use Rattle.context.specs.Nest.{inner_fam};
 ghost use Rattle.context.specs.Layout.{nc_of};
-ghost use Rattle.context.specs.Memory.{con, state_of, SoundStore};
+ghost use Rattle.context.specs.Memory.{con, state_of};
 ghost use Rattle.context.specs.Performed.{abs};
 ghost use Rattle.listing.specs.Writer.{Wrote};
 ghost use Rattle.listing.specs.Lines.{node_text, row_text, numbers_among, home_number, definition_at, uses_among, listed, lines, replies_from};
 
-use context::{Family, Kind, Layout};
+use context::view::View;
+use context::{Family, Kind};
 use edit::{Member, Nested, Slot};
 
 // A lent buffer, and where what is written next is put.
@@ -79,54 +80,50 @@ impl<'a> Pen<'a, u8> {
 }
 
 // The thing at the place `p`, as it stands in a list of the family `f`: a use in an operation's list has its definition behind it.
-fn put_node(m: &[u32], l: Layout, f: Family, p: usize, pen: &mut Pen<u8>)
-    requires sound_store { SoundStore l m.now }
-    requires live { Live (state_of l m.now) (node_in (fam_of f), p) }
-    ensures { Wrote (node_text (abs l m.now) (fam_of f) (num (state_of l m.now) (node_in (fam_of f), p))) pen.old pen.new }
+fn put_node(v: &View, f: Family, p: usize, pen: &mut Pen<u8>)
+    requires { Live (state_of v.now.layout v.now.words.now) (node_in (fam_of f), p) }
+    ensures { Wrote (node_text (abs v.now.layout v.now.words.now) (fam_of f) (num (state_of v.now.layout v.now.words.now) (node_in (fam_of f), p))) pen.old pen.new }
 {
-    pen.number(context::number_of(m, l, Kind::from(f), p));
+    pen.number(v.number_of(Kind::from(f), p));
     if let Family::Slots = f {
         pen.put(b':');
-        pen.digits(context::value::definition_number(m, l, p), 10);
+        pen.digits(v.definition_number(p), 10);
     }
 }
 
 // A word, and the numbers in the list `k` of the family `f`.
-fn put_row(m: &[u32], l: Layout, word: &[u8], f: Family, k: usize, pen: &mut Pen<u8>)
-    requires sound_store { SoundStore l m.now }
-    requires k_bound { k < nc_of l (fam_of f) }
-    ensures { Wrote (word.now ++ row_text (abs l m.now) (fam_of f) (numbers_among l m.now (fam_of f) k)) pen.old pen.new }
+fn put_row(v: &View, word: &[u8], f: Family, k: usize, pen: &mut Pen<u8>)
+    requires { k < nc_of v.now.layout (fam_of f) }
+    ensures { Wrote (word.now ++ row_text (abs v.now.layout v.now.words.now) (fam_of f) (numbers_among v.now.layout v.now.words.now (fam_of f) k)) pen.old pen.new }
 {
     pen.text(word);
-    for p in context::nodes(m, l, f, k) {
-        put_node(m, l, f, p, pen);
+    for p in v.nodes(f, k) {
+        put_node(v, f, p, pen);
     }
 }
 
 // A word, and the number of the thing that the thing at the place `p` stands in, of the kind `holder`; - for none.
-fn put_home(m: &[u32], l: Layout, word: &[u8], holder: Nested, p: usize, pen: &mut Pen<u8>)
-    requires sound_store { SoundStore l m.now }
-    requires live { Live (state_of l m.now) (node_in (inner_fam holder), p) }
-    ensures { Wrote (word.now ++ rules.or_none (home_number (state_of l m.now) (node_in (inner_fam holder), p) (inner_fam holder))) pen.old pen.new }
+fn put_home(v: &View, word: &[u8], holder: Nested, p: usize, pen: &mut Pen<u8>)
+    requires { Live (state_of v.now.layout v.now.words.now) (node_in (inner_fam holder), p) }
+    ensures { Wrote (word.now ++ rules.or_none (home_number (state_of v.now.layout v.now.words.now) (node_in (inner_fam holder), p) (inner_fam holder))) pen.old pen.new }
 {
     pen.text(word);
-    match context::home_of(m, l, Family::from(holder), p) {
-        Some(h) => pen.number(context::number_of(m, l, Kind::from(holder), h)),
+    match v.home_of(Family::from(holder), p) {
+        Some(h) => pen.number(v.number_of(Kind::from(holder), h)),
         None => pen.text(b" -"),
     }
 }
 
 // The number of the `i`-th live use, where the set `k` of uses has it.
-pub fn nth_use(m: &[u32], l: Layout, k: usize, i: usize) -> Option<u32>
-    requires sound_store { SoundStore l m.now }
-    requires k_bound { k < nc_of l use_sets }
-    requires live { Live (state_of l m.now) (con l use_sets k).1 }
-    requires i_in_bounds { i < length ((state_of l m.now).tab usg).order }
-    ensures { listed result ≡ uses_among (state_of l m.now) (definition_at l m.now k) (get_or ((state_of l m.now).tab usg).order i 0 ∷ []) }
+pub fn nth_use(v: &View, k: usize, i: usize) -> Option<u32>
+    requires k_bound { k < nc_of v.now.layout use_sets }
+    requires live { Live (state_of v.now.layout v.now.words.now) (con v.now.layout use_sets k).1 }
+    requires i_in_bounds { i < length ((state_of v.now.layout v.now.words.now).tab usg).order }
+    ensures { listed result ≡ uses_among (state_of v.now.layout v.now.words.now) (definition_at v.now.layout v.now.words.now k) (get_or ((state_of v.now.layout v.now.words.now).tab usg).order i 0 ∷ []) }
 {
-    let u = context::nth_live(m, l, Kind::Use, i);
-    if context::home_of(m, l, Family::UseSets, u) == Some(k) {
-        Some(context::number_of(m, l, Kind::Use, u))
+    let u = v.nth_live(Kind::Use, i);
+    if v.home_of(Family::UseSets, u) == Some(k) {
+        Some(v.number_of(Kind::Use, u))
     } else {
         None
     }
@@ -134,171 +131,155 @@ pub fn nth_use(m: &[u32], l: Layout, k: usize, i: usize) -> Option<u32>
 
 // Kept (point 2): tried with the loop of readers::fill_uses in one function over an `FnMut`: nothing is known of the lent pen after its calls.
 // A word, and the uses in the set `k`, in rising number.
-fn put_uses(m: &[u32], l: Layout, word: &[u8], k: usize, pen: &mut Pen<u8>)
-    requires sound_store { SoundStore l m.now }
-    requires k_bound { k < nc_of l use_sets }
-    requires live { Live (state_of l m.now) (con l use_sets k).1 }
-    ensures { Wrote (word.now ++ rules.nums (uses_among (state_of l m.now) (definition_at l m.now k) ((state_of l m.now).tab usg).order)) pen.old pen.new }
+fn put_uses(v: &View, word: &[u8], k: usize, pen: &mut Pen<u8>)
+    requires k_bound { k < nc_of v.now.layout use_sets }
+    requires live { Live (state_of v.now.layout v.now.words.now) (con v.now.layout use_sets k).1 }
+    ensures { Wrote (word.now ++ rules.nums (uses_among (state_of v.now.layout v.now.words.now) (definition_at v.now.layout v.now.words.now k) ((state_of v.now.layout v.now.words.now).tab usg).order)) pen.old pen.new }
 {
     pen.text(word);
-    for i in 0..context::live_count(m, l, Kind::Use) {
-        if let Some(x) = nth_use(m, l, k, i) {
+    for i in 0..v.live_count(Kind::Use) {
+        if let Some(x) = nth_use(v, k, i) {
             pen.number(x);
         }
     }
 }
 
 // The line of the operation at the place `p`.
-fn put_op(m: &[u32], l: Layout, p: usize, pen: &mut Pen<u8>)
-    requires sound_store { SoundStore l m.now }
-    requires live { Live (state_of l m.now) (op, p) }
-    ensures { Wrote (lines (abs l m.now) (state_of l m.now) op (p ∷ [])) pen.old pen.new }
+fn put_op(v: &View, p: usize, pen: &mut Pen<u8>)
+    requires { Live (state_of v.now.layout v.now.words.now) (op, p) }
+    ensures { Wrote (lines (abs v.now.layout v.now.words.now) (state_of v.now.layout v.now.words.now) op (p ∷ [])) pen.old pen.new }
 {
-    pen.field(b"op", context::number_of(m, l, Kind::Operation, p));
-    put_home(m, l, b" block", Nested::Block, p, pen);
-    pen.field(b" flags", context::operation::flags_of(m, l, p));
+    pen.field(b"op", v.number_of(Kind::Operation, p));
+    put_home(v, b" block", Nested::Block, p, pen);
+    pen.field(b" flags", v.flags_of(p));
     put_row(
-        m,
-        l,
+        v,
         b" res",
         Family::Values,
-        context::values_of(l, Member::Operation, p),
+        context::values_of(v.layout, Member::Operation, p),
         pen,
     );
     put_row(
-        m,
-        l,
+        v,
         b" opd",
         Family::Slots,
-        context::slots_of(l, Slot::Operand, p),
+        context::slots_of(v.layout, Slot::Operand, p),
         pen,
     );
     put_row(
-        m,
-        l,
+        v,
         b" suc",
         Family::Slots,
-        context::slots_of(l, Slot::Successor, p),
+        context::slots_of(v.layout, Slot::Successor, p),
         pen,
     );
-    put_row(m, l, b" reg", Family::Regions, p, pen);
+    put_row(v, b" reg", Family::Regions, p, pen);
     pen.put(b'\n');
 }
 
 // The line of the block at the place `p`.
-fn put_block(m: &[u32], l: Layout, p: usize, pen: &mut Pen<u8>)
-    requires sound_store { SoundStore l m.now }
-    requires live { Live (state_of l m.now) (blk, p) }
-    ensures { Wrote (lines (abs l m.now) (state_of l m.now) blk (p ∷ [])) pen.old pen.new }
+fn put_block(v: &View, p: usize, pen: &mut Pen<u8>)
+    requires { Live (state_of v.now.layout v.now.words.now) (blk, p) }
+    ensures { Wrote (lines (abs v.now.layout v.now.words.now) (state_of v.now.layout v.now.words.now) blk (p ∷ [])) pen.old pen.new }
 {
-    pen.field(b"block", context::number_of(m, l, Kind::Block, p));
-    put_home(m, l, b" region", Nested::Region, p, pen);
+    pen.field(b"block", v.number_of(Kind::Block, p));
+    put_home(v, b" region", Nested::Region, p, pen);
     put_row(
-        m,
-        l,
+        v,
         b" arg",
         Family::Values,
-        context::values_of(l, Member::Block, p),
+        context::values_of(v.layout, Member::Block, p),
         pen,
     );
-    put_row(m, l, b" ops", Family::Operations, p, pen);
+    put_row(v, b" ops", Family::Operations, p, pen);
     put_uses(
-        m,
-        l,
+        v,
         b" pred",
-        context::use_set_of(l, Slot::Successor, p),
+        context::use_set_of(v.layout, Slot::Successor, p),
         pen,
     );
     pen.put(b'\n');
 }
 
 // The line of the region at the place `p`.
-fn put_region(m: &[u32], l: Layout, p: usize, pen: &mut Pen<u8>)
-    requires sound_store { SoundStore l m.now }
-    requires live { Live (state_of l m.now) (reg, p) }
-    ensures { Wrote (lines (abs l m.now) (state_of l m.now) reg (p ∷ [])) pen.old pen.new }
+fn put_region(v: &View, p: usize, pen: &mut Pen<u8>)
+    requires { Live (state_of v.now.layout v.now.words.now) (reg, p) }
+    ensures { Wrote (lines (abs v.now.layout v.now.words.now) (state_of v.now.layout v.now.words.now) reg (p ∷ [])) pen.old pen.new }
 {
-    pen.field(b"region", context::number_of(m, l, Kind::Region, p));
-    put_home(m, l, b" op", Nested::Operation, p, pen);
-    put_row(m, l, b" blocks", Family::Blocks, p, pen);
+    pen.field(b"region", v.number_of(Kind::Region, p));
+    put_home(v, b" op", Nested::Operation, p, pen);
+    put_row(v, b" blocks", Family::Blocks, p, pen);
     pen.put(b'\n');
 }
 
 // The line of the value at the place `p`.
-fn put_value(m: &[u32], l: Layout, p: usize, pen: &mut Pen<u8>)
-    requires sound_store { SoundStore l m.now }
-    requires live { Live (state_of l m.now) (val, p) }
-    ensures { Wrote (lines (abs l m.now) (state_of l m.now) val (p ∷ [])) pen.old pen.new }
+fn put_value(v: &View, p: usize, pen: &mut Pen<u8>)
+    requires { Live (state_of v.now.layout v.now.words.now) (val, p) }
+    ensures { Wrote (lines (abs v.now.layout v.now.words.now) (state_of v.now.layout v.now.words.now) val (p ∷ [])) pen.old pen.new }
 {
-    pen.field(b"value", context::number_of(m, l, Kind::Value, p));
-    pen.field(b" type", context::value::type_of(m, l, p));
+    pen.field(b"value", v.number_of(Kind::Value, p));
+    pen.field(b" type", v.type_of(p));
     put_uses(
-        m,
-        l,
+        v,
         b" uses",
-        context::use_set_of(l, Slot::Operand, p),
+        context::use_set_of(v.layout, Slot::Operand, p),
         pen,
     );
     pen.put(b'\n');
 }
 
 // The line of the thing at the place `p`; a use has none.
-fn put_thing(m: &[u32], l: Layout, k: Kind, p: usize, pen: &mut Pen<u8>)
-    requires sound_store { SoundStore l m.now }
-    requires live { Live (state_of l m.now) (kind_of k, p) }
-    ensures { Wrote (lines (abs l m.now) (state_of l m.now) (kind_of k) (p ∷ [])) pen.old pen.new }
+fn put_thing(v: &View, k: Kind, p: usize, pen: &mut Pen<u8>)
+    requires { Live (state_of v.now.layout v.now.words.now) (kind_of k, p) }
+    ensures { Wrote (lines (abs v.now.layout v.now.words.now) (state_of v.now.layout v.now.words.now) (kind_of k) (p ∷ [])) pen.old pen.new }
 {
     match k {
-        Kind::Operation => put_op(m, l, p, pen),
-        Kind::Block => put_block(m, l, p, pen),
-        Kind::Region => put_region(m, l, p, pen),
-        Kind::Value => put_value(m, l, p, pen),
+        Kind::Operation => put_op(v, p, pen),
+        Kind::Block => put_block(v, p, pen),
+        Kind::Region => put_region(v, p, pen),
+        Kind::Value => put_value(v, p, pen),
         Kind::Use => {}
     }
 }
 
 // The lines of all things of a kind, in rising number.
-fn put_things(m: &[u32], l: Layout, k: Kind, pen: &mut Pen<u8>)
-    requires { SoundStore l m.now }
-    ensures { Wrote (lines (abs l m.now) (state_of l m.now) (kind_of k) ((state_of l m.now).tab (kind_of k)).order) pen.old pen.new }
+fn put_things(v: &View, k: Kind, pen: &mut Pen<u8>)
+    ensures { Wrote (lines (abs v.now.layout v.now.words.now) (state_of v.now.layout v.now.words.now) (kind_of k) ((state_of v.now.layout v.now.words.now).tab (kind_of k)).order) pen.old pen.new }
 {
-    for i in 0..context::live_count(m, l, k) {
-        put_thing(m, l, k, context::nth_live(m, l, k, i), pen);
+    for i in 0..v.live_count(k) {
+        put_thing(v, k, v.nth_live(k, i), pen);
     }
 }
 
 // How many things of a kind live, behind a space.
-fn put_count(m: &[u32], l: Layout, k: Kind, pen: &mut Pen<u8>)
-    requires { SoundStore l m.now }
-    ensures { Wrote (rules.num (length ((state_of l m.now).tab (kind_of k)).order)) pen.old pen.new }
+fn put_count(v: &View, k: Kind, pen: &mut Pen<u8>)
+    ensures { Wrote (rules.num (length ((state_of v.now.layout v.now.words.now).tab (kind_of k)).order)) pen.old pen.new }
 {
-    pen.number(context::live_count(m, l, k) as u32);
+    pen.number(v.live_count(k) as u32);
 }
 
 // The line that counts what lives.
-fn put_store(m: &[u32], l: Layout, pen: &mut Pen<u8>)
-    requires { SoundStore l m.now }
-    ensures { Wrote (rules.store_line (abs l m.now)) pen.old pen.new }
+fn put_store(v: &View, pen: &mut Pen<u8>)
+    ensures { Wrote (rules.store_line (abs v.now.layout v.now.words.now)) pen.old pen.new }
 {
     pen.text(b"store");
-    put_count(m, l, Kind::Operation, pen);
-    put_count(m, l, Kind::Block, pen);
-    put_count(m, l, Kind::Region, pen);
-    put_count(m, l, Kind::Value, pen);
-    put_count(m, l, Kind::Use, pen);
+    put_count(v, Kind::Operation, pen);
+    put_count(v, Kind::Block, pen);
+    put_count(v, Kind::Region, pen);
+    put_count(v, Kind::Value, pen);
+    put_count(v, Kind::Use, pen);
     pen.put(b'\n');
 }
 
 // The listing of a sound store.
-pub fn write_listing(m: &[u32], l: Layout, pen: &mut Pen<u8>)
-    requires { SoundStore l m.now }
-    ensures { Wrote (rules.listing (abs l m.now)) pen.old pen.new }
+pub fn write_listing(v: &View, pen: &mut Pen<u8>)
+    ensures { Wrote (rules.listing (abs v.now.layout v.now.words.now)) pen.old pen.new }
 {
-    put_store(m, l, pen);
-    put_things(m, l, Kind::Operation, pen);
-    put_things(m, l, Kind::Block, pen);
-    put_things(m, l, Kind::Region, pen);
-    put_things(m, l, Kind::Value, pen);
+    put_store(v, pen);
+    put_things(v, Kind::Operation, pen);
+    put_things(v, Kind::Block, pen);
+    put_things(v, Kind::Region, pen);
+    put_things(v, Kind::Value, pen);
 }
 
 // The line of the record `n`, whose answer has these three numbers.

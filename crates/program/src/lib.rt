@@ -7,6 +7,7 @@ ghost use Rattle.listing.specs.Writer.{Written, Wrote};
 ghost use Rattle.program.specs.Program.{Begun};
 
 use context::Layout;
+use context::view::View;
 use listing::Pen;
 
 // How many bytes a script may have.
@@ -53,7 +54,11 @@ fn run(script: &[u8], pen: &mut Pen<u8>)
     let mut answers = [0u32; ANSWERS];
     let ran = script::script(&mut store, &mut scratch, script, &mut answers);
     listing::write_answers(&answers[..3 * ran.count], pen);
-    listing::write_listing(&store, l, pen);
+    let v = View {
+        words: &store,
+        layout: l,
+    };
+    listing::write_listing(&v, pen);
 }
 
 // What it prints for any script, into a lent buffer: over 16,384 bytes nothing is run.

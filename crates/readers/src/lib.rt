@@ -7,13 +7,14 @@ ghost use Rattle.places.specs.Store.{Live, usg, use_sets};
 ghost use Rattle.places.specs.Hist.{def_by};
 ghost use Rattle.places.specs.Roles.{def_role};
 ghost use Rattle.context.specs.Layout.{nc_of};
-ghost use Rattle.context.specs.Memory.{con, state_of, SoundStore};
+ghost use Rattle.context.specs.Memory.{con, state_of};
 ghost use Rattle.context.specs.Performed.{abs};
 ghost use Rattle.listing.specs.Writer.{Written};
 ghost use Rattle.listing.specs.Lines.{definition_at, uses_among};
 ghost use Rattle.readers.specs.UsesOf.{definition_by, Told, ToldOf, Fronted};
 
-use context::{Family, Kind, Layout};
+use context::view::View;
+use context::{Family, Kind};
 use edit::{Refusal, Slot};
 use listing::Pen;
 
@@ -38,15 +39,14 @@ impl Definition {
 
 // Kept (point 2): tried with the loop of listing::put_uses in one function over an `FnMut`: nothing is known of the lent pen after its calls.
 // The uses in the set `k`: the live uses are gone through in rising number.
-fn fill_uses(m: &[u32], l: Layout, k: usize, out: &mut [u32]) -> usize
-    requires sound_store { SoundStore l m.now }
-    requires k_bound { k < nc_of l use_sets }
-    requires live { Live (state_of l m.now) (con l use_sets k).1 }
-    ensures { Written (uses_among (state_of l m.now) (definition_at l m.now k) ((state_of l m.now).tab usg).order) out.old 0 out.new result }
+fn fill_uses(v: &View, k: usize, out: &mut [u32]) -> usize
+    requires k_bound { k < nc_of v.now.layout use_sets }
+    requires live { Live (state_of v.now.layout v.now.words.now) (con v.now.layout use_sets k).1 }
+    ensures { Written (uses_among (state_of v.now.layout v.now.words.now) (definition_at v.now.layout v.now.words.now k) ((state_of v.now.layout v.now.words.now).tab usg).order) out.old 0 out.new result }
 {
     let mut pen = Pen { out, at: 0 };
-    for i in 0..context::live_count(m, l, Kind::Use) {
-        if let Some(x) = listing::nth_use(m, l, k, i) {
+    for i in 0..v.live_count(Kind::Use) {
+        if let Some(x) = listing::nth_use(v, k, i) {
             pen.put(x);
         }
     }
@@ -54,31 +54,24 @@ fn fill_uses(m: &[u32], l: Layout, k: usize, out: &mut [u32]) -> usize
 }
 
 // The uses in the set `k`, where the buffer has room for them.
-fn uses_in(m: &[u32], l: Layout, k: usize, out: &mut [u32]) -> Result<usize, Refusal>
-    requires sound_store { SoundStore l m.now }
-    requires k_bound { k < nc_of l use_sets }
-    requires live { Live (state_of l m.now) (con l use_sets k).1 }
-    ensures { Told (abs l m.now) (definition_at l m.now k) out.old out.new result }
+fn uses_in(v: &View, k: usize, out: &mut [u32]) -> Result<usize, Refusal>
+    requires k_bound { k < nc_of v.now.layout use_sets }
+    requires live { Live (state_of v.now.layout v.now.words.now) (con v.now.layout use_sets k).1 }
+    ensures { Told (abs v.now.layout v.now.words.now) (definition_at v.now.layout v.now.words.now k) out.old out.new result }
 {
-    if out.len() < context::row_length(m, l, Family::UseSets, k) {
+    if out.len() < v.row_length(Family::UseSets, k) {
         return Err(Refusal::NoRoom);
     }
-    Ok(fill_uses(m, l, k, out))
+    Ok(fill_uses(v, k, out))
 }
 
 // The uses of a value or a block, of a sound store.
-fn sound_uses(
-    m: &[u32],
-    l: Layout,
-    definition: Definition,
-    out: &mut [u32],
-) -> Result<usize, Refusal>
-    requires { SoundStore l m.now }
-    ensures { Told (abs l m.now) (definition_by definition) out.old out.new result }
+fn sound_uses(v: &View, definition: Definition, out: &mut [u32]) -> Result<usize, Refusal>
+    ensures { Told (abs v.now.layout v.now.words.now) (definition_by definition) out.old out.new result }
 {
     let (slot, number) = definition.slot_and_number();
-    let p = context::look_up(m, l, context::definition_kind(slot), number)?;
-    uses_in(m, l, context::use_set_of(l, slot, p), out)
+    let p = v.look_up(context::definition_kind(slot), number)?;
+    uses_in(v, context::use_set_of(v.layout, slot, p), out)
 }
 
 // The uses of a definition: their numbers, rising, in front of `out`, whose rest is kept; the result is how many.
@@ -90,7 +83,11 @@ pub fn uses_of(store: &[u32], definition: Definition, out: &mut [u32]) -> Result
     if !sound::check(store) {
         return Err(Refusal::Unsound);
     }
-    sound_uses(store, context::layout_of(store), definition, out)
+    let v = View {
+        words: store,
+        layout: context::layout_of(store),
+    };
+    sound_uses(&v, definition, out)
 }
 
 // The same, but what is returned is the front of `out` that was filled.

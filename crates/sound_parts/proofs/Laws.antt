@@ -12,9 +12,11 @@ use lib.ListN.{length, get_or, drop}
 use Rattle.std.proofs.lemmas.List.{length-drop}
 use Rattle.seqs.specs.Seqs.{Says}
 use Rattle.linked_list.specs.Links.{home, at, row, Linked}
+use Rattle.linked_list.specs.declared.Lists.{Lists}
 use Rattle.linked_list.proofs.Laws.{at_lt}
 use Rattle.linked_list.proofs.View.{seat}
-use Rattle.sound_parts.specs.Tests.{UseAt, SlotsAt, Around, climb}
+use Rattle.linked_list.proofs.Truncated.{linked}
+use Rattle.sound_parts.specs.Tests.{Sized, UseAt, SlotsAt, Around, climb}
 use Rattle.sound_parts.specs.Cross.{step_up}
 
 -- the container of a node is one of the containers
@@ -24,6 +26,10 @@ home_le nc nn s K q h = go (get_or s (home nc nn q) 0) refl
     go : (x : ℕ) → get_or s (home nc nn q) 0 ≡ x → x ≤ nc
     go zero e = omega arith
     go (suc d) e = (seat K d q h e).c<
+
+-- a family's links, by sizes that equal its own
+pub linked_as : (f : Lists) (nc nn : ℕ) (s : List ℕ) → Sized f nc nn → ∥ Linked f.nc f.nn s ∥₁ → Linked nc nn s
+linked_as f nc nn s S T = rw (S.lists, S.nodes) at (linked f.nc f.nn s T)
 
 pub says_of : (b : Bool) (P : Type 0) → b ≡ true → P → Says b P
 says_of b P e h = subst (λ (x : Bool). Says x P) (sym e) h

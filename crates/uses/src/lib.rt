@@ -18,6 +18,7 @@ ghost use Rattle.uses.specs.Some.{Between, HeldIn, PlacedOne, PlacedAll};
 ghost use Rattle.uses.specs.Retarget.{MarkedOne, Marks, Chosen, RetargetedOne, RetargetedAll};
 ghost use Rattle.uses.specs.Look.{SlotFound, DefFound, Taken};
 
+use context::view::View;
 use context::{Family, Kind, Layout};
 use edit::{Answer, Refusal, Slot};
 
@@ -28,21 +29,19 @@ const FIRST_LISTED: usize = 2;
 const BLOCK_PLACES: usize = 1024;
 
 // The list of operands or successors of the operation with this number.
-pub fn slot_of(m: &[u32], l: Layout, sl: Slot, number: u32) -> Result<usize, Refusal>
-    requires { SoundStore l m.now }
-    ensures { SlotFound l m.now (slot_of sl) number result }
+pub fn slot_of(v: &View, sl: Slot, number: u32) -> Result<usize, Refusal>
+    ensures { SlotFound v.now.layout v.now.words.now (slot_of sl) number result }
 {
-    let o = context::look_up(m, l, Kind::Operation, number)?;
-    Ok(context::slots_of(l, sl, o))
+    let o = v.look_up(Kind::Operation, number)?;
+    Ok(context::slots_of(v.layout, sl, o))
 }
 
 // The set of uses of the value or the block with this number.
-pub fn def_of(m: &[u32], l: Layout, sl: Slot, number: u32) -> Result<usize, Refusal>
-    requires { SoundStore l m.now }
-    ensures { DefFound l m.now (slot_of sl) number result }
+pub fn def_of(v: &View, sl: Slot, number: u32) -> Result<usize, Refusal>
+    ensures { DefFound v.now.layout v.now.words.now (slot_of sl) number result }
 {
-    let p = context::look_up(m, l, context::definition_kind(sl), number)?;
-    Ok(context::use_set_of(l, sl, p))
+    let p = v.look_up(context::definition_kind(sl), number)?;
+    Ok(context::use_set_of(v.layout, sl, p))
 }
 
 // Kinds 3 and 8: a use of the definition is put last.
@@ -50,10 +49,14 @@ pub fn push_use(m: &mut [u32], l: Layout, sl: Slot, number: u32, def: u32) -> An
     requires { SoundStore l m.old }
     ensures { Performed l (push_use (slot_of sl) number def) m.old m.new result }
 {
-    let s = slot_of(m, l, sl, number)?;
-    let d = def_of(m, l, sl, def)?;
-    let n = context::row_length(m, l, Family::Slots, s);
-    context::may_grow(m, l, Kind::Use, n, n)?;
+    let v = View {
+        words: m,
+        layout: l,
+    };
+    let s = slot_of(&v, sl, number)?;
+    let d = def_of(&v, sl, def)?;
+    let n = v.row_length(Family::Slots, s);
+    v.may_grow(Kind::Use, n, n)?;
     context::value::birth_use(m, l, s, n, d);
     Ok((n as u32, 0))
 }
@@ -64,11 +67,15 @@ pub fn insert_use(m: &mut [u32], l: Layout, sl: Slot, number: u32, index: u32, d
     requires { SoundStore l m.old }
     ensures { Performed l (insert_use (slot_of sl) number index def) m.old m.new result }
 {
-    let s = slot_of(m, l, sl, number)?;
-    let d = def_of(m, l, sl, def)?;
+    let v = View {
+        words: m,
+        layout: l,
+    };
+    let s = slot_of(&v, sl, number)?;
+    let d = def_of(&v, sl, def)?;
     let i = index as usize;
-    let n = context::row_length(m, l, Family::Slots, s);
-    context::may_grow(m, l, Kind::Use, n, i)?;
+    let n = v.row_length(Family::Slots, s);
+    v.may_grow(Kind::Use, n, i)?;
     context::value::birth_use(m, l, s, i, d);
     Ok((0, 0))
 }
@@ -80,8 +87,12 @@ pub fn take_use(m: &mut [u32], l: Layout, s: usize, i: usize) -> u32
     requires i_in_bounds { i < length (list_of l m.old (con l slots s)) }
     ensures { Taken l s i m.old m.new result }
 {
-    let u = context::nth_of(m, l, Family::Slots, s, i);
-    let n = context::value::definition_number(m, l, u);
+    let v = View {
+        words: m,
+        layout: l,
+    };
+    let u = v.nth_of(Family::Slots, s, i);
+    let n = v.definition_number(u);
     context::value::end_use(m, l, u);
     n
 }
@@ -91,9 +102,13 @@ pub fn remove_use(m: &mut [u32], l: Layout, sl: Slot, number: u32, index: u32) -
     requires { SoundStore l m.old }
     ensures { Performed l (remove_use (slot_of sl) number index) m.old m.new result }
 {
-    let s = slot_of(m, l, sl, number)?;
+    let v = View {
+        words: m,
+        layout: l,
+    };
+    let s = slot_of(&v, sl, number)?;
     let i = index as usize;
-    if context::row_length(m, l, Family::Slots, s) <= i {
+    if v.row_length(Family::Slots, s) <= i {
         return Err(Refusal::NoIndex);
     }
     Ok((take_use(m, l, s, i), 0))
@@ -104,8 +119,12 @@ pub fn pop_use(m: &mut [u32], l: Layout, sl: Slot, number: u32) -> Answer
     requires { SoundStore l m.old }
     ensures { Performed l (pop_use (slot_of sl) number) m.old m.new result }
 {
-    let s = slot_of(m, l, sl, number)?;
-    let n = context::row_length(m, l, Family::Slots, s);
+    let v = View {
+        words: m,
+        layout: l,
+    };
+    let s = slot_of(&v, sl, number)?;
+    let n = v.row_length(Family::Slots, s);
     if n == 0 {
         return Err(Refusal::NoIndex);
     }
@@ -113,12 +132,11 @@ pub fn pop_use(m: &mut [u32], l: Layout, sl: Slot, number: u32) -> Answer
 }
 
 // The place of the use with this number, if it stands in the set `d`.
-fn held_in(m: &[u32], l: Layout, d: usize, number: u32) -> Option<usize>
-    requires { SoundStore l m.now }
-    ensures { HeldIn l d number m.now result }
+fn held_in(v: &View, d: usize, number: u32) -> Option<usize>
+    ensures { HeldIn v.now.layout d number v.now.words.now result }
 {
-    let u = context::find(m, l, Kind::Use, number)?;
-    if context::home_of(m, l, Family::UseSets, u) == Some(d) {
+    let u = v.find(Kind::Use, number)?;
+    if v.home_of(Family::UseSets, u) == Some(d) {
         Some(u)
     } else {
         None
@@ -130,12 +148,16 @@ pub fn move_use_to(m: &mut [u32], l: Layout, sl: Slot, this: u32, number: u32, o
     requires { SoundStore l m.old }
     ensures { Performed l (move_use (slot_of sl) this number other) m.old m.new result }
 {
-    let d = def_of(m, l, sl, this)?;
-    let e = def_of(m, l, sl, other)?;
+    let v = View {
+        words: m,
+        layout: l,
+    };
+    let d = def_of(&v, sl, this)?;
+    let e = def_of(&v, sl, other)?;
     if this == other {
         return Ok((0, 0));
     }
-    let u = held_in(m, l, d, number).ok_or(Refusal::NoUse)?;
+    let u = held_in(&v, d, number).ok_or(Refusal::NoUse)?;
     context::value::move_use(m, l, u, e);
     Ok((0, 0))
 }
@@ -145,16 +167,20 @@ pub fn replace_use(m: &mut [u32], l: Layout, sl: Slot, number: u32, index: u32, 
     requires { SoundStore l m.old }
     ensures { Performed l (replace_use (slot_of sl) number index def) m.old m.new result }
 {
-    let s = slot_of(m, l, sl, number)?;
-    let d = def_of(m, l, sl, def)?;
+    let v = View {
+        words: m,
+        layout: l,
+    };
+    let s = slot_of(&v, sl, number)?;
+    let d = def_of(&v, sl, def)?;
     let i = index as usize;
-    if context::row_length(m, l, Family::Slots, s) <= i {
+    if v.row_length(Family::Slots, s) <= i {
         return Err(Refusal::NoIndex);
     }
-    if context::next_number(m, l, Kind::Use) == u32::MAX {
+    if v.next_number(Kind::Use) == u32::MAX {
         return Err(Refusal::NoNumber);
     }
-    let u = context::nth_of(m, l, Family::Slots, s, i);
+    let u = v.nth_of(Family::Slots, s, i);
     context::value::end_use(m, l, u);
     context::value::birth_use(m, l, s, i, d);
     Ok((0, 0))
@@ -166,7 +192,11 @@ pub fn place_one(m: &mut [u32], l: Layout, d: usize, e: usize, number: u32)
     requires between { Between l m.old operand d e }
     ensures { PlacedOne l d e number m.old m.new }
 {
-    if let Some(u) = held_in(m, l, d, number) {
+    let v = View {
+        words: m,
+        layout: l,
+    };
+    if let Some(u) = held_in(&v, d, number) {
         context::value::move_use(m, l, u, e);
     }
 }
@@ -187,40 +217,41 @@ pub fn replace_some(m: &mut [u32], l: Layout, rec: &[u8]) -> Answer
     requires { SoundStore l m.old }
     ensures { Performed l (edit_by ReplaceSome (fields_of rec.now)) m.old m.new result }
 {
-    let d = def_of(m, l, Slot::Operand, edit::field(rec, 0))?;
-    let e = def_of(m, l, Slot::Operand, edit::field(rec, 1))?;
+    let v = View {
+        words: m,
+        layout: l,
+    };
+    let d = def_of(&v, Slot::Operand, edit::field(rec, 0))?;
+    let e = def_of(&v, Slot::Operand, edit::field(rec, 1))?;
     place_listed(m, l, d, e, rec);
     Ok((0, 0))
 }
 
 // The block with this number, if one lives, is marked.
-fn mark_one(m: &[u32], l: Layout, number: u32, marks: &mut [bool; BLOCK_PLACES])
-    requires sound_store { SoundStore l m.now }
-    ensures { MarkedOne l number m.now marks.old marks.new }
+fn mark_one(v: &View, number: u32, marks: &mut [bool; BLOCK_PLACES])
+    ensures { MarkedOne v.now.layout number v.now.words.now marks.old marks.new }
 {
-    if let Some(b) = context::find(m, l, Kind::Block, number) {
+    if let Some(b) = v.find(Kind::Block, number) {
         marks[b] = true;
     }
 }
 
 // The listed blocks are marked.
-fn mark_listed(m: &[u32], l: Layout, rec: &[u8], marks: &mut [bool; BLOCK_PLACES])
-    requires sound_store { SoundStore l m.now }
-    requires unmarked { marks.old ≡ replicate BLOCK_PLACES false }
-    ensures { Marks l (drop 2 (fields_of rec.now)) m.now marks.new }
+fn mark_listed(v: &View, rec: &[u8], marks: &mut [bool; BLOCK_PLACES])
+    requires { marks.old ≡ replicate BLOCK_PLACES false }
+    ensures { Marks v.now.layout (drop 2 (fields_of rec.now)) v.now.words.now marks.new }
 {
     for i in FIRST_LISTED..edit::field_count(rec) {
-        mark_one(m, l, edit::field(rec, i), marks);
+        mark_one(v, edit::field(rec, i), marks);
     }
 }
 
 // Whether the use stands at an operation of a marked block.
-fn is_chosen(m: &[u32], l: Layout, u: usize, marks: &[bool; BLOCK_PLACES]) -> bool
-    requires sound_store { SoundStore l m.now }
-    requires live { Live (state_of l m.now) (usg, u) }
-    ensures { Chosen l u marks.now m.now result }
+fn is_chosen(v: &View, u: usize, marks: &[bool; BLOCK_PLACES]) -> bool
+    requires { Live (state_of v.now.layout v.now.words.now) (usg, u) }
+    ensures { Chosen v.now.layout u marks.now v.now.words.now result }
 {
-    context::value::block_of(m, l, u).is_some_and(|b| marks[b])
+    v.block_of(u).is_some_and(|b| marks[b])
 }
 
 // The use moves to the set `e`, if it stands at an operation of a marked block.
@@ -230,7 +261,11 @@ fn retarget_one(m: &mut [u32], l: Layout, e: usize, u: usize, marks: &[bool; BLO
     requires can_move { CanMove (state_of l m.old) u (con l use_sets e) }
     ensures { RetargetedOne l e u marks.now m.old m.new }
 {
-    if is_chosen(m, l, u, marks) {
+    let v = View {
+        words: m,
+        layout: l,
+    };
+    if is_chosen(&v, u, marks) {
         context::value::move_use(m, l, u, e);
     }
 }
@@ -244,10 +279,18 @@ fn retarget_listed(m: &mut [u32], l: Layout, d: usize, e: usize, rec: &[u8])
     ensures { RetargetedAll l d e (drop 2 (fields_of rec.now)) m.old m.new }
 {
     let mut marks = [false; BLOCK_PLACES];
-    mark_listed(m, l, rec, &mut marks);
-    let mut next = context::first_of(m, l, Family::UseSets, d);
+    let v = View {
+        words: m,
+        layout: l,
+    };
+    mark_listed(&v, rec, &mut marks);
+    let mut next = v.first_of(Family::UseSets, d);
     while let Some(u) = next {
-        next = context::next_of(m, l, Family::UseSets, u);
+        let v = View {
+            words: m,
+            layout: l,
+        };
+        next = v.next_of(Family::UseSets, u);
         retarget_one(m, l, e, u, &marks);
     }
 }
@@ -257,10 +300,14 @@ pub fn retarget_some(m: &mut [u32], l: Layout, rec: &[u8]) -> Answer
     requires { SoundStore l m.old }
     ensures { Performed l (edit_by RetargetSome (fields_of rec.now)) m.old m.new result }
 {
-    let b = context::look_up(m, l, Kind::Block, edit::field(rec, 0))?;
+    let v = View {
+        words: m,
+        layout: l,
+    };
+    let b = v.look_up(Kind::Block, edit::field(rec, 0))?;
     let d = context::use_set_of(l, Slot::Successor, b);
-    let e = def_of(m, l, Slot::Successor, edit::field(rec, 1))?;
-    if context::basic_block::stray_user(m, l, b) {
+    let e = def_of(&v, Slot::Successor, edit::field(rec, 1))?;
+    if v.stray_user(b) {
         return Err(Refusal::StrayUser);
     }
     if d != e {

@@ -12,16 +12,16 @@ ghost use Rattle.context.specs.Reading.{list_of};
 ghost use Rattle.context.specs.Performed.{Performed};
 ghost use Rattle.values.specs.Look.{ValuesFound, TakenValue};
 
+use context::view::View;
 use context::{Family, Kind, Layout};
 use edit::{Answer, Member, Refusal};
 
 // The list of values of the operation or block with this number.
-pub fn values_of(m: &[u32], l: Layout, w: Member, number: u32) -> Result<usize, Refusal>
-    requires { SoundStore l m.now }
-    ensures { ValuesFound l m.now (member_of w) number result }
+pub fn values_of(v: &View, w: Member, number: u32) -> Result<usize, Refusal>
+    ensures { ValuesFound v.now.layout v.now.words.now (member_of w) number result }
 {
-    let p = context::look_up(m, l, Kind::from(w), number)?;
-    Ok(context::values_of(l, w, p))
+    let p = v.look_up(Kind::from(w), number)?;
+    Ok(context::values_of(v.layout, w, p))
 }
 
 // Kinds 13 and 17: a value of the type is put last.
@@ -29,9 +29,13 @@ pub fn push_value(m: &mut [u32], l: Layout, w: Member, owner: u32, ty: u32) -> A
     requires { SoundStore l m.old }
     ensures { Performed l (push_value (member_of w) owner ty) m.old m.new result }
 {
-    let k = values_of(m, l, w, owner)?;
-    let n = context::row_length(m, l, Family::Values, k);
-    context::may_grow(m, l, Kind::Value, n, n)?;
+    let v = View {
+        words: m,
+        layout: l,
+    };
+    let k = values_of(&v, w, owner)?;
+    let n = v.row_length(Family::Values, k);
+    v.may_grow(Kind::Value, n, n)?;
     context::value::birth_value(m, l, k, n, ty);
     Ok((n as u32, 0))
 }
@@ -42,10 +46,14 @@ pub fn insert_value(m: &mut [u32], l: Layout, w: Member, owner: u32, index: u32,
     requires { SoundStore l m.old }
     ensures { Performed l (insert_value (member_of w) owner index ty) m.old m.new result }
 {
-    let k = values_of(m, l, w, owner)?;
+    let v = View {
+        words: m,
+        layout: l,
+    };
+    let k = values_of(&v, w, owner)?;
     let i = index as usize;
-    let n = context::row_length(m, l, Family::Values, k);
-    context::may_grow(m, l, Kind::Value, n, i)?;
+    let n = v.row_length(Family::Values, k);
+    v.may_grow(Kind::Value, n, i)?;
     context::value::birth_value(m, l, k, i, ty);
     Ok((0, 0))
 }
@@ -57,8 +65,12 @@ pub fn take_value(m: &mut [u32], l: Layout, k: usize, i: usize) -> Result<(), Re
     requires i_in_bounds { i < length (list_of l m.old (con l vals k)) }
     ensures { TakenValue l k i m.old m.new result }
 {
-    let p = context::nth_of(m, l, Family::Values, k, i);
-    if context::first_of(m, l, Family::UseSets, p).is_some() {
+    let v = View {
+        words: m,
+        layout: l,
+    };
+    let p = v.nth_of(Family::Values, k, i);
+    if v.first_of(Family::UseSets, p).is_some() {
         return Err(Refusal::Used);
     }
     context::value::end_value(m, l, p);
@@ -70,9 +82,13 @@ pub fn remove_value(m: &mut [u32], l: Layout, w: Member, owner: u32, index: u32)
     requires { SoundStore l m.old }
     ensures { Performed l (remove_value (member_of w) owner index) m.old m.new result }
 {
-    let k = values_of(m, l, w, owner)?;
+    let v = View {
+        words: m,
+        layout: l,
+    };
+    let k = values_of(&v, w, owner)?;
     let i = index as usize;
-    if context::row_length(m, l, Family::Values, k) <= i {
+    if v.row_length(Family::Values, k) <= i {
         return Err(Refusal::NoIndex);
     }
     take_value(m, l, k, i)?;
@@ -84,8 +100,12 @@ pub fn pop_value(m: &mut [u32], l: Layout, w: Member, owner: u32) -> Answer
     requires { SoundStore l m.old }
     ensures { Performed l (pop_value (member_of w) owner) m.old m.new result }
 {
-    let k = values_of(m, l, w, owner)?;
-    let n = context::row_length(m, l, Family::Values, k);
+    let v = View {
+        words: m,
+        layout: l,
+    };
+    let k = values_of(&v, w, owner)?;
+    let n = v.row_length(Family::Values, k);
     if n == 0 {
         return Err(Refusal::NoIndex);
     }

@@ -237,7 +237,7 @@ refused_answer {e = e} T =
       done = λ z. absurd (omega (arith, number_of-positive e, T.code, z));
     }
 
-module _ {l : Layout} {m s s' : List ℕ} {x : nest.Thing} {n : ℕ} (C : Testable l x m s) (T : Tested l (thing_at x) n m s s' (Ok tt)) where
+module _ {l : Layout} {m s s' : List ℕ} {x : nest.Thing} {n : ℕ} (S : SoundStore l m) (C : Testable l x m s) (T : Tested l (thing_at x) n m s s' (Ok tt)) where
   abbrev A : State
   A = state_of l m
 
@@ -254,8 +254,8 @@ module _ {l : Layout} {m s s' : List ℕ} {x : nest.Thing} {n : ℕ} (C : Testab
   can_erase D =
       record {
         store = D.store;
-        live = subst (λ (Q : State). Live Q y) (sym D.state) (lives_on C.store.sound y (nested≤ x.kind) C.live);
-        unused = from_free (subst (λ (Q : State). Free Q y) (sym D.state) (drop_free C.store.sound y T.marks T.right none_out));
+        live = subst (λ (Q : State). Live Q y) (sym D.state) (lives_on S.sound y (nested≤ x.kind) C.live);
+        unused = from_free (subst (λ (Q : State). Free Q y) (sym D.state) (drop_free S.sound y T.marks T.right none_out));
       }
 
   pub done_answer : {t : Tally} {m₁ m₂ : List ℕ} → Tallied l y m m₁ t → Erased l y m₁ m₂ → EraseAnswer l y n m m₂ (Ok (t.freed, t.ended))
@@ -267,7 +267,7 @@ module _ {l : Layout} {m s s' : List ℕ} {x : nest.Thing} {n : ℕ} (C : Testab
         done = λ _. record {
           store = E.store;
           rest = E.rest ∙ D.rest;
-          state = E.state ∙ ap (λ (Q : State). cut_all (innards Q y) Q) D.state ∙ ap (λ (t : List Thing). cut_all t (dropped A y)) (innards_dropped C.store.sound y);
+          state = E.state ∙ ap (λ (Q : State). cut_all (innards Q y) Q) D.state ∙ ap (λ (t : List Thing). cut_all t (dropped A y)) (innards_dropped S.sound y);
           reply = ap₂ {C = Answer} (λ (a b : ℕ). Ok (a, b)) D.freed D.ended;
         };
       }

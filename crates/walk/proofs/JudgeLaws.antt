@@ -129,11 +129,6 @@ pub was_none : {A E : Type 0} {r : Rust.Option A} (e : E) {x : E} → ok_or r e 
 was_none {r = None} e h = (refl, cc)
 was_none {r = Some x} e h = let z : ◌≡◌ {A = ℕ} 0 1 = cc in absurd (omega arith)
 
--- what a test of an option's place gave: r is q where there is none, and else what the test gave
-pub tested : (k : Rust.Option ℕ) {r q : Bool} {Post : ℕ → Type 0} → Rust.MatchOption k (r ≡ false) Post → (k ≡ None → false ≡ q) → ((p : ℕ) → k ≡ Some p → Post p → r ≡ q) → r ≡ q
-tested None e z h = e ∙ z refl
-tested (Some p) e z h = h p refl e
-
 -- what lies around
 module _ {l : Layout} {m : List ℕ} (S : SoundStore l m) where
   abbrev P : State

@@ -22,7 +22,7 @@ use Rattle.edit.specs.Kinds.{code_of}
 use Rattle.edit.specs.declared.Nested.{Nested}
 use Rattle.edit.specs.declared.Nested.TheVariants.{Operation, Block, Region}
 use Rattle.edit.specs.declared.Refusal.{Refusal}
-use Rattle.context.specs.Memory.{state_of}
+use Rattle.context.specs.Memory.{state_of, SoundStore}
 use Rattle.context.specs.Nest.{nested_kind, inner_fam, thing_at}
 use Rattle.context.specs.Reading.{NodesAre}
 use Rattle.context.proofs.Rest.{Rest, rest_all, rest_on}
@@ -96,11 +96,11 @@ module _ {l : Layout} {x : nest.Thing} {n v : ℕ} {m s₀ s : List ℕ} where
           ∙ ap {B = List Thing} (λ (z : List Thing). gather (deeper l m n) M.rest.done ++ z) (sym (append_nil (deeper l m n (node_in (inner_fam x.kind), q))))
           ∙ sym (gather_append (deeper l m n) M.rest.done ((node_in (inner_fam x.kind), q) ∷ []))
 
-  pub marked : {t s₁ : List ℕ} → Testable l x m t → Marking l x n v m s₀ s [] → (n ≡ 0 → ⊥) → Given (alone (thing_at x)) v s₁ s₀ → Given (within (state_of l m) n (thing_at x)) v s₁ s
-  marked {t} {s₁} T M h O = subst (λ (zs : List Thing). Given zs v s₁ s) (sym (within_step (state_of l m) n (thing_at x) h ∙ ap {B = List Thing} (λ (t : List Thing). thing_at x ∷ gather (deeper l m n) t) all)) (given_append O M.given)
+  pub marked : {s₁ : List ℕ} → SoundStore l m → Marking l x n v m s₀ s [] → (n ≡ 0 → ⊥) → Given (alone (thing_at x)) v s₁ s₀ → Given (within (state_of l m) n (thing_at x)) v s₁ s
+  marked {s₁} S M h O = subst (λ (zs : List Thing). Given zs v s₁ s) (sym (within_step (state_of l m) n (thing_at x) h ∙ ap {B = List Thing} (λ (t : List Thing). thing_at x ∷ gather (deeper l m n) t) all)) (given_append O M.given)
     where
       all : kids (state_of l m) (thing_at x) ≡ M.rest.done
-      all = sym (nest_row T.store x.kind x.place) ∙ M.rest.parts ∙ append_nil M.rest.done
+      all = sym (nest_row S x.kind x.place) ∙ M.rest.parts ∙ append_nil M.rest.done
 
 -- ---- marked, tested, and clear again
 

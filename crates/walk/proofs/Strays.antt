@@ -40,12 +40,11 @@ pub child_is : (k : Nested) (c : ℕ) {y : Thing} → y ≡ (nested_kind (inner_
 child_is k c e = ap {B = Thing} (λ t. (t, c)) (inner_node k) ∙ sym e
 
 -- the one that the loop has come to
-pub child_testable : {l : Layout} {m s : List ℕ} {x y : nest.Thing} {q : ℕ} {c : List ℕ} (T : Testable l x m s) → Rest l (inner_fam x.kind) x.place m (q ∷ c) → thing_at y ≡ (nested_kind (inner_kind x.kind), q) → {s' : List ℕ}
+pub child_testable : {l : Layout} {m s : List ℕ} {x y : nest.Thing} {q : ℕ} {c : List ℕ} → SoundStore l m → Testable l x m s → Rest l (inner_fam x.kind) x.place m (q ∷ c) → thing_at y ≡ (nested_kind (inner_kind x.kind), q) → {s' : List ℕ}
     → length s' ≡ length s → Testable l y m s'
-child_testable {l} {m} {x = x} {q = q} T R i e =
+child_testable {l} {m} {x = x} {q = q} S T R i e =
     record {
-      store = T.store;
-      live = subst (λ (t : Thing). Live (state_of l m) t) (child_is x.kind q i) (first_here R T.store).live;
+      live = subst (λ (t : Thing). Live (state_of l m) t) (child_is x.kind q i) (first_here R S).live;
       long = omega (arith, e, T.long);
     }
 

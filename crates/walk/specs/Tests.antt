@@ -9,7 +9,7 @@ use Rattle.places.specs.Walk.{pick, sgn, kids, walk_by, walk, def_sets, mark_of,
 use Rattle.rules.specs.Table.{any}
 use Rattle.context.specs.declared.Layout.{Layout}
 use Rattle.context.specs.declared.Thing as nest
-use Rattle.context.specs.Memory.{state_of, SoundStore}
+use Rattle.context.specs.Memory.{state_of}
 use Rattle.context.specs.Nest.{thing_at}
 
 -- ---- what lies in a thing
@@ -50,7 +50,6 @@ pub record Given (zs : List Thing) (v : ℕ) (s s' : List ℕ) : Type 0 where
 
 -- a thing of the store, and a scratch with a word for each operation
 pub record Testable (l : Layout) (x : nest.Thing) (m s : List ℕ) : Type 0 where
-  pub store : SoundStore l m
   pub live : Live (state_of l m) (thing_at x)
   pub long : l.ops ≤ length s
 

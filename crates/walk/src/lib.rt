@@ -23,6 +23,7 @@ ghost use Rattle.walk.specs.Judge.{user_leads, Answers, reply_of, BlockAlone, Op
 ghost use Rattle.walk.specs.Tests.{within, alone, DepthIs, Testable, Given, stray, stray_set, stray_value, stray_thing, marks_in, erase_code, Zeros, Tested, Scratch};
 ghost use Rattle.walk.specs.Erase.{CanErase, Erased, CanEndValues, EndedValues, OwnEnded, inner_kind, own_reach, EraseAnswer, erase_by};
 
+use context::view::View;
 use context::{Family, Kind, Layout, Thing, slots_of, use_set_of, values_of};
 use edit::{Answer, Member, Nested, Refusal, Slot};
 
@@ -79,10 +80,18 @@ pub fn drop_operation(m: &mut [u32], l: Layout, o: usize, left: usize, t: &mut T
 {
     drop_own(m, l, o, t);
     let mut n = left - 1;
-    let mut next = context::first_of(m, l, Family::Regions, o);
+    let v = View {
+        words: m,
+        layout: l,
+    };
+    let mut next = v.first_of(Family::Regions, o);
     while let Some(r) = next {
         n = drop_region(m, l, r, n, t);
-        next = context::next_of(m, l, Family::Regions, r);
+        let v = View {
+            words: m,
+            layout: l,
+        };
+        next = v.next_of(Family::Regions, r);
     }
     n
 }
@@ -94,10 +103,18 @@ pub fn drop_region(m: &mut [u32], l: Layout, r: usize, left: usize, t: &mut Tall
     ensures { Dropped l (reg, r) (walked left t.old) m.old m.new (walked result t.new) }
 {
     let mut n = left;
-    let mut next = context::first_of(m, l, Family::Blocks, r);
+    let v = View {
+        words: m,
+        layout: l,
+    };
+    let mut next = v.first_of(Family::Blocks, r);
     while let Some(b) = next {
         n = drop_block(m, l, b, n, t);
-        next = context::next_of(m, l, Family::Blocks, b);
+        let v = View {
+            words: m,
+            layout: l,
+        };
+        next = v.next_of(Family::Blocks, b);
     }
     n
 }
@@ -109,10 +126,18 @@ pub fn drop_block(m: &mut [u32], l: Layout, b: usize, left: usize, t: &mut Tally
     ensures { Dropped l (blk, b) (walked left t.old) m.old m.new (walked result t.new) }
 {
     let mut n = left;
-    let mut next = context::first_of(m, l, Family::Operations, b);
+    let v = View {
+        words: m,
+        layout: l,
+    };
+    let mut next = v.first_of(Family::Operations, b);
     while let Some(o) = next {
         n = drop_operation(m, l, o, n, t);
-        next = context::next_of(m, l, Family::Operations, o);
+        let v = View {
+            words: m,
+            layout: l,
+        };
+        next = v.next_of(Family::Operations, o);
     }
     n
 }
@@ -135,7 +160,11 @@ fn drop_tallied(m: &mut [u32], l: Layout, x: Thing) -> Tally
     requires live { Live (state_of l m.old) (thing_at x) }
     ensures { Tallied l (thing_at x) m.old m.new result }
 {
-    let left = context::live_count(m, l, Kind::Operation);
+    let v = View {
+        words: m,
+        layout: l,
+    };
+    let left = v.live_count(Kind::Operation);
     let mut t = Tally { freed: 0, ended: 0 };
     drop_inside(m, l, x, left, &mut t);
     t
@@ -146,116 +175,125 @@ pub fn drop_uses(m: &mut [u32], l: Layout, kind: Nested, number: u32) -> Answer
     requires { SoundStore l m.old }
     ensures { Performed l (drop_uses (thing_of kind number)) m.old m.new result }
 {
-    let place = context::look_up(m, l, Kind::from(kind), number)?;
+    let v = View {
+        words: m,
+        layout: l,
+    };
+    let place = v.look_up(Kind::from(kind), number)?;
     let t = drop_tallied(m, l, Thing { kind, place });
     Ok((0, t.ended))
 }
 
 // Whether the operation at the place `o` is a terminator.
-fn is_terminator(m: &[u32], l: Layout, o: usize) -> bool
-    requires { SoundStore l m.now × Live (state_of l m.now) (op, o) }
-    ensures { result ≡ terminates (state_of l m.now) (op, o) }
+fn is_terminator(v: &View, o: usize) -> bool
+    requires { Live (state_of v.now.layout v.now.words.now) (op, o) }
+    ensures { result ≡ terminates (state_of v.now.layout v.now.words.now) (op, o) }
 {
-    context::operation::flags_of(m, l, o) % 2 == 1
+    v.flags_of(o) % 2 == 1
 }
 
 // Whether its blocks may lack a terminator.
-fn may_lack(m: &[u32], l: Layout, o: usize) -> bool
-    requires { SoundStore l m.now × Live (state_of l m.now) (op, o) }
-    ensures { result ≡ lackable (state_of l m.now) (op, o) }
+fn may_lack(v: &View, o: usize) -> bool
+    requires { Live (state_of v.now.layout v.now.words.now) (op, o) }
+    ensures { result ≡ lackable (state_of v.now.layout v.now.words.now) (op, o) }
 {
-    2 <= context::operation::flags_of(m, l, o)
+    2 <= v.flags_of(o)
 }
 
+// Kept (point 1): `match` in this and two functions below, since a closure for `is_some_and` that holds a View gets no `ensures` by itself.
 // Whether the block ends in a terminator.
-fn ends_well(m: &[u32], l: Layout, b: usize) -> bool
-    requires { SoundStore l m.now × Live (state_of l m.now) (blk, b) }
-    ensures { result ≡ place_ends_well (state_of l m.now) (blk, b) }
+fn ends_well(v: &View, b: usize) -> bool
+    requires { Live (state_of v.now.layout v.now.words.now) (blk, b) }
+    ensures { result ≡ place_ends_well (state_of v.now.layout v.now.words.now) (blk, b) }
 {
-    context::last_of(m, l, Family::Operations, b).is_some_and(|o| is_terminator(m, l, o))
+    match v.last_of(Family::Operations, b) {
+        Some(o) => is_terminator(v, o),
+        None => false,
+    }
 }
 
 // Whether a successor of the operation is the block.
-fn names_block(m: &[u32], l: Layout, b: usize, o: usize) -> bool
-    requires { SoundStore l m.now × Live (state_of l m.now) (blk, b) × Live (state_of l m.now) (op, o) }
-    ensures { result ≡ place_names_block (state_of l m.now) (blk, b) (op, o) }
+fn names_block(v: &View, b: usize, o: usize) -> bool
+    requires { Live (state_of v.now.layout v.now.words.now) (blk, b) × Live (state_of v.now.layout v.now.words.now) (op, o) }
+    ensures { result ≡ place_names_block (state_of v.now.layout v.now.words.now) (blk, b) (op, o) }
 {
-    let uses_of_block = use_set_of(l, Slot::Successor, b);
-    context::any_of(
-        m,
-        l,
+    let uses_of_block = use_set_of(v.layout, Slot::Successor, b);
+    v.any_of(
         Family::Slots,
-        slots_of(l, Slot::Successor, o),
-        |u| context::home_of(m, l, Family::UseSets, u) == Some(uses_of_block),
+        slots_of(v.layout, Slot::Successor, o),
+        |u| v.home_of(Family::UseSets, u) == Some(uses_of_block),
     )
 }
 
 // Whether the block at the place `p` ends in a terminator that names the block at `b`.
-fn leads_to(m: &[u32], l: Layout, b: usize, p: usize) -> bool
-    requires { SoundStore l m.now × Live (state_of l m.now) (blk, b) × Live (state_of l m.now) (blk, p) }
-    ensures { result ≡ place_leads_to (state_of l m.now) (blk, b) (blk, p) }
+fn leads_to(v: &View, b: usize, p: usize) -> bool
+    requires { Live (state_of v.now.layout v.now.words.now) (blk, b) × Live (state_of v.now.layout v.now.words.now) (blk, p) }
+    ensures { result ≡ place_leads_to (state_of v.now.layout v.now.words.now) (blk, b) (blk, p) }
 {
-    context::last_of(m, l, Family::Operations, p).is_some_and(|o| is_terminator(m, l, o)
-        && names_block(m, l, b, o))
+    match v.last_of(Family::Operations, p) {
+        Some(o) => is_terminator(v, o) && names_block(v, b, o),
+        None => false,
+    }
 }
 
 // Whether the block of the use's user leads to the block at the place `b`.
-fn user_leads(m: &[u32], l: Layout, b: usize, u: usize) -> bool
-    requires { SoundStore l m.now × Live (state_of l m.now) (blk, b) × Live (state_of l m.now) (usg, u) }
-    ensures { result ≡ user_leads (state_of l m.now) (blk, b) (usg, u) }
+fn user_leads(v: &View, b: usize, u: usize) -> bool
+    requires { Live (state_of v.now.layout v.now.words.now) (blk, b) × Live (state_of v.now.layout v.now.words.now) (usg, u) }
+    ensures { result ≡ user_leads (state_of v.now.layout v.now.words.now) (blk, b) (usg, u) }
 {
-    context::value::block_of(m, l, u).is_some_and(|p| leads_to(m, l, b, p))
+    match v.block_of(u) {
+        Some(p) => leads_to(v, b, p),
+        None => false,
+    }
 }
 
 // Whether a predecessor of the block does not lead to it.
-fn lost_pred(m: &[u32], l: Layout, b: usize) -> bool
-    requires { SoundStore l m.now × Live (state_of l m.now) (blk, b) }
-    ensures { result ≡ place_lost_pred (state_of l m.now) (blk, b) }
+fn lost_pred(v: &View, b: usize) -> bool
+    requires { Live (state_of v.now.layout v.now.words.now) (blk, b) }
+    ensures { result ≡ place_lost_pred (state_of v.now.layout v.now.words.now) (blk, b) }
 {
-    context::any_of(
-        m,
-        l,
+    v.any_of(
         Family::UseSets,
-        use_set_of(l, Slot::Successor, b),
-        |u| !user_leads(m, l, b, u),
+        use_set_of(v.layout, Slot::Successor, b),
+        |u| !user_leads(v, b, u),
     )
 }
 
 // Whether the block at the place `b` of the region at `r` ends as it has to.
-fn ended(m: &[u32], l: Layout, b: usize, r: usize) -> bool
-    requires { SoundStore l m.now × Live (state_of l m.now) (blk, b) × Live (state_of l m.now) (reg, r) }
-    ensures { result ≡ (some_and (up (state_of l m.now) (reg, r)) (lackable (state_of l m.now)) || place_ends_well (state_of l m.now) (blk, b)) }
+fn ended(v: &View, b: usize, r: usize) -> bool
+    requires { Live (state_of v.now.layout v.now.words.now) (blk, b) × Live (state_of v.now.layout v.now.words.now) (reg, r) }
+    ensures { result ≡ (some_and (up (state_of v.now.layout v.now.words.now) (reg, r)) (lackable (state_of v.now.layout v.now.words.now)) || place_ends_well (state_of v.now.layout v.now.words.now) (blk, b)) }
 {
-    let o = context::home_of(m, l, Family::Regions, r).unwrap();
-    may_lack(m, l, o) || ends_well(m, l, b)
+    let o = v.home_of(Family::Regions, r).unwrap();
+    may_lack(v, o) || ends_well(v, b)
 }
 
 // The tests of a block by itself.
-fn judge_block(m: &[u32], l: Layout, b: usize) -> Result<(), Fault>
-    requires { SoundStore l m.now × Live (state_of l m.now) (blk, b) }
-    ensures { BlockAlone l b m.now result }
+fn judge_block(v: &View, b: usize) -> Result<(), Fault>
+    requires { Live (state_of v.now.layout v.now.words.now) (blk, b) }
+    ensures { BlockAlone v.now.layout b v.now.words.now result }
 {
-    let n = context::number_of(m, l, Kind::Block, b);
-    let r = context::home_of(m, l, Family::Blocks, b).ok_or(Fault::Unlinked(n))?;
-    if !ended(m, l, b, r) {
+    let n = v.number_of(Kind::Block, b);
+    let r = v.home_of(Family::Blocks, b).ok_or(Fault::Unlinked(n))?;
+    if !ended(v, b, r) {
         return Err(Fault::NoTerminator(n));
     }
-    if context::basic_block::stray_user(m, l, b) {
+    if v.stray_user(b) {
         return Err(Fault::StrayUser);
     }
-    if lost_pred(m, l, b) {
+    if lost_pred(v, b) {
         return Err(Fault::LostPredecessor(n));
     }
     Ok(())
 }
 
 // Whether the operation may stand where it does: no terminator has a next operation.
-fn judge_end(m: &[u32], l: Layout, o: usize) -> Result<(), Fault>
-    requires { SoundStore l m.now × Live (state_of l m.now) (op, o) }
-    ensures { reply_of result ≡ place_too_early (state_of l m.now) (op, o) }
+fn judge_end(v: &View, o: usize) -> Result<(), Fault>
+    requires { Live (state_of v.now.layout v.now.words.now) (op, o) }
+    ensures { reply_of result ≡ place_too_early (state_of v.now.layout v.now.words.now) (op, o) }
 {
-    if is_terminator(m, l, o) && context::next_of(m, l, Family::Operations, o).is_some() {
-        return Err(Fault::TooEarly(context::number_of(m, l, Kind::Operation, o)));
+    if is_terminator(v, o) && v.next_of(Family::Operations, o).is_some() {
+        return Err(Fault::TooEarly(v.number_of(Kind::Operation, o)));
     }
     Ok(())
 }
@@ -264,37 +302,37 @@ fn judge_end(m: &[u32], l: Layout, o: usize) -> Result<(), Fault>
 // The verdict on the operation at the place `o`: its regions in order, then its end. The published tests of uses and definitions
 // always pass on a sound store (places, proofs/DefUse) and are left out.
 #[cycle(verify_block_verify_operation_verify_region)]
-pub fn verify_operation(m: &[u32], l: Layout, o: usize) -> Result<(), Fault>
-    requires { SoundStore l m.now × Live (state_of l m.now) (op, o) }
-    ensures { OpJudged l o m.now result }
+pub fn verify_operation(v: &View, o: usize) -> Result<(), Fault>
+    requires { Live (state_of v.now.layout v.now.words.now) (op, o) }
+    ensures { OpJudged v.now.layout o v.now.words.now result }
 {
-    for r in context::nodes(m, l, Family::Regions, o) {
-        verify_region(m, l, r)?;
+    for r in v.nodes(Family::Regions, o) {
+        verify_region(v, r)?;
     }
-    judge_end(m, l, o)
+    judge_end(v, o)
 }
 
 // The verdict on the region at the place `r`: its blocks in order.
 #[cycle(verify_block_verify_operation_verify_region)]
-pub fn verify_region(m: &[u32], l: Layout, r: usize) -> Result<(), Fault>
-    requires { SoundStore l m.now × Live (state_of l m.now) (reg, r) }
-    ensures { RegionJudged l r m.now result }
+pub fn verify_region(v: &View, r: usize) -> Result<(), Fault>
+    requires { Live (state_of v.now.layout v.now.words.now) (reg, r) }
+    ensures { RegionJudged v.now.layout r v.now.words.now result }
 {
-    for b in context::nodes(m, l, Family::Blocks, r) {
-        verify_block(m, l, b)?;
+    for b in v.nodes(Family::Blocks, r) {
+        verify_block(v, b)?;
     }
     Ok(())
 }
 
 // The verdict on the block at the place `b`: the block by itself, then its operations in order.
 #[cycle(verify_block_verify_operation_verify_region)]
-pub fn verify_block(m: &[u32], l: Layout, b: usize) -> Result<(), Fault>
-    requires { SoundStore l m.now × Live (state_of l m.now) (blk, b) }
-    ensures { BlockJudged l b m.now result }
+pub fn verify_block(v: &View, b: usize) -> Result<(), Fault>
+    requires { Live (state_of v.now.layout v.now.words.now) (blk, b) }
+    ensures { BlockJudged v.now.layout b v.now.words.now result }
 {
-    judge_block(m, l, b)?;
-    for o in context::nodes(m, l, Family::Operations, b) {
-        verify_operation(m, l, o)?;
+    judge_block(v, b)?;
+    for o in v.nodes(Family::Operations, b) {
+        verify_operation(v, o)?;
     }
     Ok(())
 }
@@ -310,28 +348,26 @@ fn answer_of(judged: Result<(), Fault>) -> Answer
 }
 
 // Edits 42, 43, 44: the verdict on the thing of this kind with this number. Refused: 7, 8, 9 by the kind.
-pub fn verdict(m: &[u32], l: Layout, kind: Nested, number: u32) -> Answer
-    requires { SoundStore l m.now }
-    ensures { Performed l (verdict (thing_of kind number)) m.now m.now result }
+pub fn verdict(v: &View, kind: Nested, number: u32) -> Answer
+    ensures { Performed v.now.layout (verdict (thing_of kind number)) v.now.words.now v.now.words.now result }
 {
-    let p = context::look_up(m, l, Kind::from(kind), number)?;
+    let p = v.look_up(Kind::from(kind), number)?;
     match kind {
-        Nested::Operation => answer_of(verify_operation(m, l, p)),
-        Nested::Block => answer_of(verify_block(m, l, p)),
-        Nested::Region => answer_of(verify_region(m, l, p)),
+        Nested::Operation => answer_of(verify_operation(v, p)),
+        Nested::Block => answer_of(verify_block(v, p)),
+        Nested::Region => answer_of(verify_region(v, p)),
     }
 }
 
 // A depth that reaches all: as many steps as things live.
-fn depth(m: &[u32], l: Layout) -> usize
-    requires { SoundStore l m.now }
-    ensures { DepthIs l m.now result }
+fn depth(v: &View) -> usize
+    ensures { DepthIs v.now.layout v.now.words.now result }
 {
-    let a = context::live_count(m, l, Kind::Operation);
-    let b = context::live_count(m, l, Kind::Block);
-    let c = context::live_count(m, l, Kind::Region);
-    let d = context::live_count(m, l, Kind::Value);
-    let e = context::live_count(m, l, Kind::Use);
+    let a = v.live_count(Kind::Operation);
+    let b = v.live_count(Kind::Block);
+    let c = v.live_count(Kind::Region);
+    let d = v.live_count(Kind::Value);
+    let e = v.live_count(Kind::Use);
     a + b + c + d + e + 1
 }
 
@@ -358,58 +394,58 @@ fn mark_own(s: &mut [u32], x: Thing, marked: bool)
 }
 
 // The operations in the thing, itself included, by fewer than `n` steps are marked or not.
-fn mark_within(m: &[u32], l: Layout, s: &mut [u32], x: Thing, n: usize, marked: bool)
-    requires { Testable l x m.now s.old }
-    ensures { Given (within (state_of l m.now) n (thing_at x)) (from_bool marked) s.old s.new }
+fn mark_within(v: &View, s: &mut [u32], x: Thing, n: usize, marked: bool)
+    requires { Testable v.now.layout x v.now.words.now s.old }
+    ensures { Given (within (state_of v.now.layout v.now.words.now) n (thing_at x)) (from_bool marked) s.old s.new }
 {
     if n == 0 {
         return;
     }
     mark_own(s, x, marked);
-    for c in context::nodes(m, l, Family::from(x.kind), x.place) {
-        mark_within(m, l, s, inner(x, c), n - 1, marked);
+    for c in v.nodes(Family::from(x.kind), x.place) {
+        mark_within(v, s, inner(x, c), n - 1, marked);
     }
 }
 
-// Kept (point 5): m, l and s stay three parameters, since a struct of them would be taken apart again for each call of `context`.
+// Kept (point 5): the view and the marks stay two parameters, since the marks are scratch, lent beside the store.
 // Whether the use stands at an operation without a mark.
-fn is_stray(m: &[u32], l: Layout, s: &[u32], u: usize) -> bool
-    requires sound_store { SoundStore l m.now × (l.ops ≤ length s.now) }
-    requires live { Live (state_of l m.now) (usg, u) }
-    ensures { result ≡ stray (state_of l m.now) (marks_in s.now) (usg, u) }
+fn is_stray(v: &View, s: &[u32], u: usize) -> bool
+    requires long { v.now.layout.ops ≤ length s.now }
+    requires live { Live (state_of v.now.layout v.now.words.now) (usg, u) }
+    ensures { result ≡ stray (state_of v.now.layout v.now.words.now) (marks_in s.now) (usg, u) }
 {
-    let o = context::value::user_of(m, l, u);
+    let o = v.user_of(u);
     s[o] == 0
 }
 
 // Whether a use of the set `d` stands at an operation without a mark.
-fn set_strays(m: &[u32], l: Layout, s: &[u32], d: usize) -> bool
-    requires sound_store { SoundStore l m.now × (l.ops ≤ length s.now) }
-    requires d_bound { d < nc_of l use_sets }
-    ensures { result ≡ stray_set (state_of l m.now) (marks_in s.now) (con l use_sets d) }
+fn set_strays(v: &View, s: &[u32], d: usize) -> bool
+    requires long { v.now.layout.ops ≤ length s.now }
+    requires d_bound { d < nc_of v.now.layout use_sets }
+    ensures { result ≡ stray_set (state_of v.now.layout v.now.words.now) (marks_in s.now) (con v.now.layout use_sets d) }
 {
-    context::any_of(m, l, Family::UseSets, d, |u| is_stray(m, l, s, u))
+    v.any_of(Family::UseSets, d, |u| is_stray(v, s, u))
 }
 
 // Whether a use of a value of the list `c` does.
-fn values_stray(m: &[u32], l: Layout, s: &[u32], c: usize) -> bool
-    requires sound_store { SoundStore l m.now × (l.ops ≤ length s.now) }
-    requires c_bound { c < nc_of l vals }
-    ensures { result ≡ any (stray_value (state_of l m.now) (marks_in s.now)) (list_of l m.now (con l vals c)) }
+fn values_stray(v: &View, s: &[u32], c: usize) -> bool
+    requires long { v.now.layout.ops ≤ length s.now }
+    requires c_bound { c < nc_of v.now.layout vals }
+    ensures { result ≡ any (stray_value (state_of v.now.layout v.now.words.now) (marks_in s.now)) (list_of v.now.layout v.now.words.now (con v.now.layout vals c)) }
 {
-    context::any_of(m, l, Family::Values, c, |v| set_strays(m, l, s, v))
+    v.any_of(Family::Values, c, |p| set_strays(v, s, p))
 }
 
 // Whether a use of a definition of the thing does: of a result, of an argument, of the block itself.
-fn own_strays(m: &[u32], l: Layout, s: &[u32], x: Thing) -> bool
-    requires { Testable l x m.now s.now }
-    ensures { result ≡ stray_thing (state_of l m.now) (marks_in s.now) (thing_at x) }
+fn own_strays(v: &View, s: &[u32], x: Thing) -> bool
+    requires { Testable v.now.layout x v.now.words.now s.now }
+    ensures { result ≡ stray_thing (state_of v.now.layout v.now.words.now) (marks_in s.now) (thing_at x) }
 {
     match x.kind {
-        Nested::Operation => values_stray(m, l, s, values_of(l, Member::Operation, x.place)),
+        Nested::Operation => values_stray(v, s, values_of(v.layout, Member::Operation, x.place)),
         Nested::Block => {
-            set_strays(m, l, s, use_set_of(l, Slot::Successor, x.place))
-                || values_stray(m, l, s, values_of(l, Member::Block, x.place))
+            set_strays(v, s, use_set_of(v.layout, Slot::Successor, x.place))
+                || values_stray(v, s, values_of(v.layout, Member::Block, x.place))
         }
         Nested::Region => false,
     }
@@ -417,18 +453,18 @@ fn own_strays(m: &[u32], l: Layout, s: &[u32], x: Thing) -> bool
 
 // Kept (point 2): a closure for `any_of` that calls back needs clauses of its own, which are longer than the loop.
 // Whether anything in the thing, itself included, by fewer than `n` steps is used at an operation without a mark.
-fn strays_within(m: &[u32], l: Layout, s: &[u32], x: Thing, n: usize) -> bool
-    requires { Testable l x m.now s.now }
-    ensures { result ≡ any (stray_thing (state_of l m.now) (marks_in s.now)) (within (state_of l m.now) n (thing_at x)) }
+fn strays_within(v: &View, s: &[u32], x: Thing, n: usize) -> bool
+    requires { Testable v.now.layout x v.now.words.now s.now }
+    ensures { result ≡ any (stray_thing (state_of v.now.layout v.now.words.now) (marks_in s.now)) (within (state_of v.now.layout v.now.words.now) n (thing_at x)) }
 {
     if n == 0 {
         return false;
     }
-    if own_strays(m, l, s, x) {
+    if own_strays(v, s, x) {
         return true;
     }
-    for c in context::nodes(m, l, Family::from(x.kind), x.place) {
-        if strays_within(m, l, s, inner(x, c), n - 1) {
+    for c in v.nodes(Family::from(x.kind), x.place) {
+        if strays_within(v, s, inner(x, c), n - 1) {
             return true;
         }
     }
@@ -436,36 +472,29 @@ fn strays_within(m: &[u32], l: Layout, s: &[u32], x: Thing, n: usize) -> bool
 }
 
 // Refused by the marks: 13 for what lies in the thing by fewer than `n` steps, 14 for all in it.
-fn test_marked(
-    m: &[u32],
-    l: Layout,
-    s: &[u32],
-    x: Thing,
-    n: usize,
-    deep: usize,
-) -> Result<(), Refusal>
-    requires testable { Testable l x m.now s.now }
-    requires depth_is { DepthIs l m.now deep }
-    ensures { code_of result ≡ erase_code (state_of l m.now) (marks_in s.now) n (thing_at x) }
+fn test_marked(v: &View, s: &[u32], x: Thing, n: usize, deep: usize) -> Result<(), Refusal>
+    requires testable { Testable v.now.layout x v.now.words.now s.now }
+    requires depth_is { DepthIs v.now.layout v.now.words.now deep }
+    ensures { code_of result ≡ erase_code (state_of v.now.layout v.now.words.now) (marks_in s.now) n (thing_at x) }
 {
-    if strays_within(m, l, s, x, n) {
+    if strays_within(v, s, x, n) {
         return Err(Refusal::Used);
     }
-    if strays_within(m, l, s, x, deep) {
+    if strays_within(v, s, x, deep) {
         return Err(Refusal::UsedInside);
     }
     Ok(())
 }
 
 // The same, of a thing that gets its marks for the time of the test.
-fn test_erase(m: &[u32], l: Layout, s: &mut [u32], x: Thing, n: usize) -> Result<(), Refusal>
-    requires { Testable l x m.now s.old × Zeros s.old }
-    ensures { Tested l (thing_at x) n m.now s.old s.new result }
+fn test_erase(v: &View, s: &mut [u32], x: Thing, n: usize) -> Result<(), Refusal>
+    requires { Testable v.now.layout x v.now.words.now s.old × Zeros s.old }
+    ensures { Tested v.now.layout (thing_at x) n v.now.words.now s.old s.new result }
 {
-    let deep = depth(m, l);
-    mark_within(m, l, s, x, deep, true);
-    let r = test_marked(m, l, s, x, n, deep);
-    mark_within(m, l, s, x, deep, false);
+    let deep = depth(v);
+    mark_within(v, s, x, deep, true);
+    let r = test_marked(v, s, x, n, deep);
+    mark_within(v, s, x, deep, false);
     r
 }
 
@@ -530,11 +559,16 @@ fn own_reach(k: Nested) -> usize
 // The thing is erased, unless what lies in it is used from outside: 13 within its own reach, else 14.
 // All tests come before the first store.
 fn erase_found(m: &mut [u32], l: Layout, s: &mut [u32], x: Thing) -> Answer
-    requires { Testable l x m.old s.old × Zeros s.old }
+    requires sound_store { SoundStore l m.old }
+    requires testable { Testable l x m.old s.old × Zeros s.old }
     ensures erase_answer { EraseAnswer l (thing_at x) (own_reach x.kind) m.old m.new result }
     ensures scratch { Scratch l s.new }
 {
-    test_erase(m, l, s, x, own_reach(x.kind))?;
+    let v = View {
+        words: m,
+        layout: l,
+    };
+    test_erase(&v, s, x, own_reach(x.kind))?;
     let t = drop_tallied(m, l, x);
     erase_inside(m, l, x);
     Ok((t.freed, t.ended))
@@ -548,7 +582,11 @@ pub fn erase(m: &mut [u32], l: Layout, s: &mut [u32], w: Member, number: u32) ->
     ensures performed { Performed l (erase_by (member_of w) number) m.old m.new result }
     ensures scratch_2 { Scratch l s.new }
 {
-    let place = context::look_up(m, l, Kind::from(w), number)?;
+    let v = View {
+        words: m,
+        layout: l,
+    };
+    let place = v.look_up(Kind::from(w), number)?;
     let kind = Nested::from(w);
     erase_found(m, l, s, Thing { kind, place })
 }
@@ -560,11 +598,15 @@ pub fn erase_region(m: &mut [u32], l: Layout, s: &mut [u32], number: u32, index:
     ensures performed { Performed l (erase_region number index) m.old m.new result }
     ensures scratch_2 { Scratch l s.new }
 {
-    let o = context::look_up(m, l, Kind::Operation, number)?;
-    if context::row_length(m, l, Family::Regions, o) <= index {
+    let v = View {
+        words: m,
+        layout: l,
+    };
+    let o = v.look_up(Kind::Operation, number)?;
+    if v.row_length(Family::Regions, o) <= index {
         return Err(Refusal::NoIndex);
     }
     let kind = Nested::Region;
-    let place = context::nth_of(m, l, Family::Regions, o, index);
+    let place = v.nth_of(Family::Regions, o, index);
     erase_found(m, l, s, Thing { kind, place })
 }

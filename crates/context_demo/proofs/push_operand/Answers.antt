@@ -10,8 +10,8 @@ slots_of-s-requires-clause-o_bound c = place< c.requires (op, c.in_ok-o.o) c.in_
 pub use_set_of-d-requires-clause-p_bound : goal.use_set_of-d-requires-clause-p_bound
 use_set_of-d-requires-clause-p_bound c = place< c.requires (val, c.in_ok-v.v) c.in_ok-v.ensures.0
 
-pub row_length-n-requires-clause-k_bound : goal.row_length-n-requires-clause-k_bound
-row_length-n-requires-clause-k_bound c = c.slots_of-s.ensures.inside
+pub row_length-n-requires : goal.row_length-n-requires
+row_length-n-requires c = c.slots_of-s.ensures.inside
 
 pub birth_use-requires-clause-s_bound : goal.birth_use-requires-clause-s_bound
 birth_use-requires-clause-s_bound c = (c.slots_of-s.ensures.inside, c.use_set_of-d.ensures.inside)

@@ -9,11 +9,11 @@ absent : (h : Option ℕ) → is_some h ≡ false → h ≡ None
 absent None e = refl
 absent (Some x) e = absurd (true≢false e)
 
-pub home_of-requires-clause-n_bound : goal.home_of-requires-clause-n_bound
-home_of-requires-clause-n_bound c = place< c.requires (op, c.in_ok-o.o) c.in_ok-o.ensures.0
+pub home_of-requires : goal.home_of-requires
+home_of-requires c = place< c.requires (op, c.in_ok-o.o) c.in_ok-o.ensures.0
 
-pub home_of-requires-2-clause-n_bound : goal.home_of-requires-2-clause-n_bound
-home_of-requires-2-clause-n_bound c = place< c.requires (blk, c.in_ok-b.b) c.in_ok-b.ensures.0
+pub home_of-requires-2 : goal.home_of-requires-2
+home_of-requires-2 c = place< c.requires (blk, c.in_ok-b.b) c.in_ok-b.ensures.0
 
 pub link_back-requires-clause-k_bound : goal.link_back-requires-clause-k_bound
 link_back-requires-clause-k_bound c = (place< c.requires (blk, c.in_ok-b.b) c.in_ok-b.ensures.0, place< c.requires (op, c.in_ok-o.o) c.in_ok-o.ensures.0)

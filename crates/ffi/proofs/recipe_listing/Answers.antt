@@ -21,10 +21,10 @@ listed {m} {answers} {out} {out'} {l} {n} H S h w =
       text = λ _ _. subst (λ (j : Layout). Written (edit_lines 0 (replies_from answers 0 (length answers / 3)) ++ listing (abs j m)) out 0 out' n) (headed H) w;
     }
 
-pub write_listing-requires : goal.write_listing-requires
-write_listing-requires c = rw (headed c.layout_of-l.ensures) c.if-not-check.ensures
+pub invariant_of-v : goal.invariant_of-v
+invariant_of-v c = record { sound = ∣ rw (headed c.layout_of.ensures) c.if-not-check.ensures ∣₁ }
 
 pub returns : goal.returns
 returns c =
     let w = and_then c.write_answers.ensures c.write_listing.ensures in
-    listed c.layout_of-l.ensures c.if-not-check.ensures c.if-answers.false (record { is = search (w.is, w.same, rules) })
+    listed c.layout_of.ensures c.if-not-check.ensures c.if-answers.false (record { is = search (w.is, w.same, rules) })

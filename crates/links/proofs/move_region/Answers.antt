@@ -11,8 +11,8 @@ returns-in_err-n c =
     let p = err_from_is_err_and c.from_residual.result c.from_residual.ensures.1 in
     rw (p.1, p.2) (refused c.requires (move_region c.args.r c.args.o) c.in_err-n.field-0.0 c.in_err-n.ensures)
 
-pub home_of-requires-clause-n_bound : goal.home_of-requires-clause-n_bound
-home_of-requires-clause-n_bound c = place< c.requires (reg, c.in_ok-n.n) c.in_ok-n.ensures.live
+pub home_of-requires : goal.home_of-requires
+home_of-requires c = place< c.requires (reg, c.in_ok-n.n) c.in_ok-n.ensures.live
 
 pub move_region-requires-clause-can_move_region : goal.move_region-requires-clause-can_move_region
 move_region-requires-clause-can_move_region c = may_go c.requires c.args.r c.args.o c.in_ok-n.n c.in_ok-n.k c.in_ok-n.ensures c.home_of.result c.home_of.ensures (same_no c.home_of.result c.in_ok-n.k (other_by _ c.if-ne.ensures))

@@ -13,8 +13,8 @@ returns-in_err-n c =
     let p = err_from_is_err_and c.from_residual.result c.from_residual.ensures.1 in
     rw (p.1, p.2) (refused c.requires (unlink (member_of c.args.w) c.args.x) c.in_err-n.field-0.0 (unlink_gone c.requires (member_of c.args.w) c.args.x (kind_of c.from.result) c.in_err-n.field-0.0 c.in_err-n.ensures c.from.ensures))
 
-pub home_of-requires-clause-n_bound : goal.home_of-requires-clause-n_bound
-home_of-requires-clause-n_bound c = node< (member_of c.args.w) c.args.l (fam_of c.from-2.result) c.from-2.ensures c.in_ok-n.n c.requires (member_live (member_of c.args.w) (state_of c.args.l c.args.m.now) (kind_of c.from.result) c.args.x c.in_ok-n.n c.from.ensures c.in_ok-n.ensures).0
+pub home_of-requires : goal.home_of-requires
+home_of-requires c = node< (member_of c.args.w) c.args.l (fam_of c.from-2.result) c.from-2.ensures c.in_ok-n.n c.requires (member_live (member_of c.args.w) (state_of c.args.l c.args.m.now) (kind_of c.from.result) c.args.x c.in_ok-n.n c.from.ensures c.in_ok-n.ensures).0
 
 pub returns-then-is_none : goal.returns-then-is_none
 returns-then-is_none c =

@@ -3,4 +3,4 @@ use Rattle.listing.proofs.Rows.{Row}
 use Rattle.listing.proofs.put_row.Given as goal
 
 abbrev pub invariant-loop-p : goal.invariant-loop-p
-invariant-loop-p l = Row l.l l.m (fam_of l.f) l.k l.p-iterator l.initial.pen l.pen
+invariant-loop-p l = Row l.v.layout l.v.words.now (fam_of l.f) l.k l.p-iterator l.initial.pen l.pen

@@ -10,4 +10,4 @@ use Rattle.listing.proofs.put_thing.Goals as goal
 
 pub returns-in-Use : goal.returns-in-Use
 returns-in-Use c =
-    same_text (ap (λ (k : Kind). lines (abs c.args.l c.args.m.now) (state_of c.args.l c.args.m.now) (kind_of k) (c.args.p ∷ [])) (sym c.in-Use.is)) nothing
+    same_text (ap (λ (k : Kind). lines (abs c.args.v.now.layout c.args.v.now.words.now) (state_of c.args.v.now.layout c.args.v.now.words.now) (kind_of k) (c.args.p ∷ [])) (sym c.in-Use.is)) nothing

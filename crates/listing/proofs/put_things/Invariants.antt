@@ -7,4 +7,4 @@ use Rattle.listing.specs.Lines.{lines}
 use Rattle.listing.proofs.put_things.Given as goal
 
 abbrev pub invariant-loop-i : goal.invariant-loop-i
-invariant-loop-i l = Wrote (lines (abs l.l l.m) (state_of l.l l.m) (kind_of l.k) (take l.i ((state_of l.l l.m).tab (kind_of l.k)).order)) l.initial.pen l.pen
+invariant-loop-i l = Wrote (lines (abs l.v.layout l.v.words.now) (state_of l.v.layout l.v.words.now) (kind_of l.k) (take l.i ((state_of l.v.layout l.v.words.now).tab (kind_of l.k)).order)) l.initial.pen l.pen

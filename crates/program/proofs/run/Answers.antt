@@ -14,9 +14,9 @@ pub write_answers-requires : goal.write_answers-requires
 write_answers-requires c =
     (few c.begin-l.ensures c.script-ran.ensures (length-replicate {A = ℕ} 128 0) (length-replicate {A = ℕ} 12288 0) c.script-ran.auto.answers).1
 
-pub write_listing-requires : goal.write_listing-requires
-write_listing-requires c =
-    after c.begin-l.ensures c.script-ran.ensures (length-replicate {A = ℕ} 128 0) (length-replicate {A = ℕ} 12288 0)
+pub invariant_of-v : goal.invariant_of-v
+invariant_of-v c =
+    record { sound = ∣ after c.begin-l.ensures c.script-ran.ensures (length-replicate {A = ℕ} 128 0) (length-replicate {A = ℕ} 12288 0) ∣₁ }
 
 pub returns : goal.returns
 returns c =

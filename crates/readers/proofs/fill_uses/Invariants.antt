@@ -6,4 +6,4 @@ use Rattle.listing.specs.Lines.{definition_at, uses_among}
 use Rattle.readers.proofs.fill_uses.Given as goal
 
 abbrev pub invariant-loop-i : goal.invariant-loop-i
-invariant-loop-i l = Wrote (uses_among (state_of l.l l.m) (definition_at l.l l.m l.k) (take l.i ((state_of l.l l.m).tab usg).order)) l.initial.pen l.pen
+invariant-loop-i l = Wrote (uses_among (state_of l.v.layout l.v.words.now) (definition_at l.v.layout l.v.words.now l.k) (take l.i ((state_of l.v.layout l.v.words.now).tab usg).order)) l.initial.pen l.pen

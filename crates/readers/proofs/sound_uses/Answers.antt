@@ -4,6 +4,7 @@ use Rattle.places.specs.Roles.{def_kind}
 use Rattle.context.specs.Memory.{state_of}
 use Rattle.context.proofs.Numbers.{list_lives}
 use Rattle.context.proofs.Places.{place<}
+use Rattle.context.proofs.Viewed.{sound_of}
 use Rattle.readers.proofs.Public.{passed_on}
 use Rattle.readers.proofs.Telling.{told_as, not_there, found_live, set_is}
 use Rattle.readers.proofs.sound_uses.Goals as goal
@@ -11,16 +12,16 @@ use Rattle.readers.proofs.sound_uses.Goals as goal
 pub returns-in_err-p : goal.returns-in_err-p
 returns-in_err-p c =
     rw (passed_on c.from_residual.result c.from_residual.ensures)
-    (told_as (sym c.slot_and_number-slot.ensures) (not_there c.requires (slot_of c.slot_and_number-slot.result.0) c.definition_kind.ensures c.slot_and_number-slot.result.1 c.args.out.now c.in_err-p.ensures))
+    (told_as (sym c.slot_and_number-slot.ensures) (not_there (sound_of c.args.v.now.sound) (slot_of c.slot_and_number-slot.result.0) c.definition_kind.ensures c.slot_and_number-slot.result.1 c.args.out.now c.in_err-p.ensures))
 
 pub use_set_of-requires-clause-p_bound : goal.use_set_of-requires-clause-p_bound
 use_set_of-requires-clause-p_bound c =
-    place< c.requires (def_kind (slot_of c.slot_and_number-slot.result.0), c.in_ok-p.p) (found_live c.requires (slot_of c.slot_and_number-slot.result.0) c.definition_kind.ensures c.slot_and_number-slot.result.1 c.in_ok-p.p c.in_ok-p.ensures)
+    place< (sound_of c.args.v.now.sound) (def_kind (slot_of c.slot_and_number-slot.result.0), c.in_ok-p.p) (found_live (sound_of c.args.v.now.sound) (slot_of c.slot_and_number-slot.result.0) c.definition_kind.ensures c.slot_and_number-slot.result.1 c.in_ok-p.p c.in_ok-p.ensures)
 
 pub uses_in-requires-clause-live : goal.uses_in-requires-clause-live
 uses_in-requires-clause-live c =
-    list_lives c.use_set_of.ensures (state_of c.args.l c.args.m.now) (found_live c.requires (slot_of c.slot_and_number-slot.result.0) c.definition_kind.ensures c.slot_and_number-slot.result.1 c.in_ok-p.p c.in_ok-p.ensures)
+    list_lives c.use_set_of.ensures (state_of c.args.v.now.layout c.args.v.now.words.now) (found_live (sound_of c.args.v.now.sound) (slot_of c.slot_and_number-slot.result.0) c.definition_kind.ensures c.slot_and_number-slot.result.1 c.in_ok-p.p c.in_ok-p.ensures)
 
 pub returns : goal.returns
 returns c =
-    told_as (set_is c.requires (slot_of c.slot_and_number-slot.result.0) c.definition_kind.ensures c.slot_and_number-slot.result.1 c.in_ok-p.p c.in_ok-p.ensures c.use_set_of.ensures ∙ sym c.slot_and_number-slot.ensures) c.uses_in.ensures
+    told_as (set_is (sound_of c.args.v.now.sound) (slot_of c.slot_and_number-slot.result.0) c.definition_kind.ensures c.slot_and_number-slot.result.1 c.in_ok-p.p c.in_ok-p.ensures c.use_set_of.ensures ∙ sym c.slot_and_number-slot.ensures) c.uses_in.ensures

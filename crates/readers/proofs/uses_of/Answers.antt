@@ -6,9 +6,9 @@ use Rattle.context.proofs.Checking.{headed}
 use Rattle.readers.proofs.Public.{told}
 use Rattle.readers.proofs.uses_of.Goals as goal
 
-pub sound_uses-requires : goal.sound_uses-requires
-sound_uses-requires c =
-    subst (λ (l : Layout). SoundStore l c.args.store.now) (sym (headed c.layout_of.ensures)) (says_yes c.check.result (SoundStore (layout_of c.args.store.now) c.args.store.now) c.if-not-check.false c.check.ensures)
+pub invariant_of-v : goal.invariant_of-v
+invariant_of-v c =
+    record { sound = ∣ subst (λ (l : Layout). SoundStore l c.args.store.now) (sym (headed c.layout_of.ensures)) (says_yes c.check.result (SoundStore (layout_of c.args.store.now) c.args.store.now) c.if-not-check.false c.check.ensures) ∣₁ }
 
 pub returns : goal.returns
 returns c =

@@ -2,9 +2,9 @@ use mathlib.Core.Logic.{inl}
 use native.Mathlib.Omega.{arith}
 use borrow.Author.Count.{below_more}
 use Rattle.std.proofs.Common.{◌*◌, ◌<◌, length, ap}
+use Rattle.linked_list.proofs.Truncated.{linked}
 use Rattle.linked_list.proofs.View.{row_short}
-use Rattle.sound_parts.proofs.Laws.{uses_begun, use_there, uses_more, uses_all, too_long, unheld, says_of}
-use Rattle.sound_parts.proofs.Truncated.{linked, linked_as}
+use Rattle.sound_parts.proofs.Laws.{uses_begun, use_there, uses_more, uses_all, too_long, unheld, says_of, linked_as}
 use Rattle.sound_parts.proofs.check_slots.Goals.{then-j-ge-MOST_LISTED-via-then-j-ge-MOST_LISTED, then-j-ge-MOST_LISTED-via-else-j-ge-MOST_LISTED+then-not-use_at}
 use Rattle.sound_parts.proofs.check_slots.Goals as goal
 

@@ -5,8 +5,8 @@ use Rattle.uses.proofs.retarget_listed.Goals as goal
 pub loop-next-init : goal.loop-next-init
 loop-next-init c = begins c.requires.sound_store c.requires.between c.mark_listed.ensures c.first_of-next.ensures
 
-pub next_of-next-requires-clause-n_bound : goal.next_of-next-requires-clause-n_bound
-next_of-next-requires-clause-n_bound c = (here c.loop-next.invariant.sound c.loop-next.invariant.at c.in-Some.is).place
+pub next_of-next-requires : goal.next_of-next-requires
+next_of-next-requires c = (here c.loop-next.invariant.sound c.loop-next.invariant.at c.in-Some.is).place
 
 pub retarget_one-requires-clause-can_move : goal.retarget_one-requires-clause-can_move
 retarget_one-requires-clause-can_move c = can_move c.loop-next.invariant c.in-Some.is

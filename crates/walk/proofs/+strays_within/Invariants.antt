@@ -10,4 +10,4 @@ abbrev pub decreases-strays_within : goal.decreases-strays_within
 decreases-strays_within l = l.n
 
 abbrev pub invariant-loop-c : goal.invariant-loop-c
-invariant-loop-c l = Searching l.l (inner_fam l.x.kind) l.x.place l.m l.c-iterator (in_test (state_of l.l l.m) (stray_thing (state_of l.l l.m) (marks_in l.s)) (l.n - 1))
+invariant-loop-c l = Searching l.v.layout (inner_fam l.x.kind) l.x.place l.v.words.now l.c-iterator (in_test (state_of l.v.layout l.v.words.now) (stray_thing (state_of l.v.layout l.v.words.now) (marks_in l.s)) (l.n - 1))

@@ -7,9 +7,9 @@ returns-in_err-place-clause-performed c =
     let p = err_from_is_err_and c.from_residual.result c.from_residual.ensures.1 in
     rw (p.1, p.2) (none_to_erase c.requires.sound_store c.args.w c.args.number c.from.ensures c.in_err-place.ensures)
 
-pub erase_found-requires : goal.erase_found-requires
-erase_found-requires c =
-    (record { store = c.requires.sound_store; live = (member_there c.requires.sound_store c.args.w c.args.number c.in_ok-place.place c.from.ensures c.from-kind.ensures c.in_ok-place.ensures).0; long = c.requires.scratch.long }, c.requires.scratch.zeros)
+pub erase_found-requires-clause-testable : goal.erase_found-requires-clause-testable
+erase_found-requires-clause-testable c =
+    (record { live = (member_there c.requires.sound_store c.args.w c.args.number c.in_ok-place.place c.from.ensures c.from-kind.ensures c.in_ok-place.ensures).0; long = c.requires.scratch.long }, c.requires.scratch.zeros)
 
 pub returns-clause-performed : goal.returns-clause-performed
 returns-clause-performed c = did_erase c.requires.sound_store c.args.w c.args.number c.in_ok-place.place c.from.ensures c.from-kind.ensures c.in_ok-place.ensures _ _ c.erase_found.ensures.erase_answer

@@ -9,7 +9,7 @@ returns-in_err-test_erase-clause-erase_answer c =
     rw (p.1, p.2, sym c.own_reach.ensures) (refused_answer c.in_err-test_erase.ensures)
 
 pub erase_inside-requires : goal.erase_inside-requires
-erase_inside-requires c = can_erase c.requires.0 c.in_ok-test_erase.ensures c.drop_tallied-t.ensures
+erase_inside-requires c = can_erase c.requires.sound_store c.requires.testable.0 c.in_ok-test_erase.ensures c.drop_tallied-t.ensures
 
 pub returns-clause-erase_answer : goal.returns-clause-erase_answer
-returns-clause-erase_answer c = rw (sym c.own_reach.ensures) (done_answer c.requires.0 c.in_ok-test_erase.ensures c.drop_tallied-t.ensures c.erase_inside.ensures)
+returns-clause-erase_answer c = rw (sym c.own_reach.ensures) (done_answer c.requires.sound_store c.requires.testable.0 c.in_ok-test_erase.ensures c.drop_tallied-t.ensures c.erase_inside.ensures)

@@ -16,8 +16,8 @@ returns-in_err-o-clause-performed c =
     let p = err_from_is_err_and c.from_residual.result c.from_residual.ensures.1 in
     rw (p.1, p.2) (no_thing c.requires.sound_store (erase_region c.args.number c.args.index) Operation c.args.number refl c.in_err-o.ensures refl)
 
-pub row_length-requires-clause-k_bound : goal.row_length-requires-clause-k_bound
-row_length-requires-clause-k_bound c = place< c.requires.sound_store (op, c.in_ok-o.o) c.in_ok-o.ensures.0
+pub row_length-requires : goal.row_length-requires
+row_length-requires c = place< c.requires.sound_store (op, c.in_ok-o.o) c.in_ok-o.ensures.0
 
 pub returns-then-row_length-index-clause-performed : goal.returns-then-row_length-index-clause-performed
 returns-then-row_length-index-clause-performed c =
@@ -26,9 +26,9 @@ returns-then-row_length-index-clause-performed c =
 pub nth_of-place-requires-clause-k_bound : goal.nth_of-place-requires-clause-k_bound
 nth_of-place-requires-clause-k_bound c = place< c.requires.sound_store (op, c.in_ok-o.o) c.in_ok-o.ensures.0
 
-pub erase_found-requires : goal.erase_found-requires
-erase_found-requires c =
-    (record { store = c.requires.sound_store; live = region_live c.requires.sound_store c.in_ok-o.o c.args.number c.args.index c.in_ok-o.ensures.0 c.in_ok-o.ensures.1 c.nth_of-place.result c.nth_of-place.ensures; long = c.requires.scratch.long }, c.requires.scratch.zeros)
+pub erase_found-requires-clause-testable : goal.erase_found-requires-clause-testable
+erase_found-requires-clause-testable c =
+    (record { live = region_live c.requires.sound_store c.in_ok-o.o c.args.number c.args.index c.in_ok-o.ensures.0 c.in_ok-o.ensures.1 c.nth_of-place.result c.nth_of-place.ensures; long = c.requires.scratch.long }, c.requires.scratch.zeros)
 
 pub returns-clause-performed : goal.returns-clause-performed
 returns-clause-performed c =

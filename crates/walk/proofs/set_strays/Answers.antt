@@ -5,4 +5,4 @@ use Rattle.walk.proofs.set_strays.Goals as goal
 
 pub returns : goal.returns
 unfolding stray_set
-returns c = c.any_of.ensures (stray (state_of c.args.l c.args.m.now) (marks_in c.args.s.now)) (λ q v r w. search (w, rules))
+returns c = c.any_of.ensures (stray (state_of c.args.v.now.layout c.args.v.now.words.now) (marks_in c.args.s.now)) (λ q v r w. search (w, rules))

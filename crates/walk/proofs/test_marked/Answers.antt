@@ -7,7 +7,7 @@ use Rattle.walk.proofs.test_marked.Goals as goal
 
 pub returns-then-strays_within : goal.returns-then-strays_within
 returns-then-strays_within c =
-    code_13 (state_of c.args.l c.args.m.now) (marks_in c.args.s.now) c.args.n (thing_at c.args.x) (sym c.if-strays_within.ensures)
+    code_13 (state_of c.args.v.now.layout c.args.v.now.words.now) (marks_in c.args.s.now) c.args.n (thing_at c.args.x) (sym c.if-strays_within.ensures)
 
 pub returns-then-strays_within-2 : goal.returns-then-strays_within-2
 returns-then-strays_within-2 c =

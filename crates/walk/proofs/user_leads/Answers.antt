@@ -1,20 +1,14 @@
-use mathlib.Core.Path.{◌≡◌, ◌∙◌}
-use Rattle.std.proofs.Common.{rules, Some}
-use Prim.Native.Nat.{ℕ}
-use Rattle.places.specs.Store.{blk, Live}
-use Rattle.places.specs.Verdict.{place_leads_to}
-use Rattle.context.specs.Memory.{state_of}
+use mathlib.Core.Path.{◌∙◌}
 use Rattle.context.proofs.Users.{block_live}
-use Rattle.walk.proofs.JudgeLaws.{tested, leads_none, leads_some}
+use Rattle.context.proofs.Viewed.{sound_of}
+use Rattle.walk.proofs.JudgeLaws.{leads_none, leads_some}
 use Rattle.walk.proofs.user_leads.Goals as goal
 
-pub is_some_and-requires : goal.is_some_and-requires
-is_some_and-requires c =
-    let lives : (p : ℕ) → c.block_of.result ≡ Some p → Live (state_of c.args.l c.args.m.now) (blk, p) = λ p e. block_live c.requires.0 c.block_of.ensures e in
-    search (c.requires, lives, rules)
+pub leads_to-requires : goal.leads_to-requires
+leads_to-requires c = (c.requires.0, block_live (sound_of c.args.v.now.sound) c.block_of.ensures c.in-Some.is)
 
-pub returns : goal.returns
-returns c =
-    tested c.block_of.result c.is_some_and.ensures
-    (leads_none c.requires.0 c.args.b c.block_of.ensures)
-    (λ p e q. let t : c.is_some_and.result ≡ place_leads_to (state_of c.args.l c.args.m.now) (blk, c.args.b) (blk, p) = search (q, rules) in t ∙ leads_some c.requires.0 c.args.b c.block_of.ensures e)
+pub returns-in-Some : goal.returns-in-Some
+returns-in-Some c = c.leads_to.ensures ∙ leads_some (sound_of c.args.v.now.sound) c.args.b c.block_of.ensures c.in-Some.is
+
+pub returns-in-None : goal.returns-in-None
+returns-in-None c = leads_none (sound_of c.args.v.now.sound) c.args.b c.block_of.ensures c.in-None.is

@@ -4,11 +4,11 @@ use Rattle.context.proofs.Moving.{own_at, row<, stand, last_some, last_at, swapp
 use Rattle.context.proofs.region.swap_out.Goals.{then-last-r, else-last-r}
 use Rattle.context.proofs.region.swap_out.Goals as goal
 
-pub home_of-requires-clause-n_bound : goal.home_of-requires-clause-n_bound
-home_of-requires-clause-n_bound c = place< c.requires.sound_store (reg, c.args.r) c.requires.live
+pub home_of-requires : goal.home_of-requires
+home_of-requires c = place< c.requires.sound_store (reg, c.args.r) c.requires.live
 
-pub last_of-requires-clause-k_bound : goal.last_of-requires-clause-k_bound
-last_of-requires-clause-k_bound c = row< c.args.r c.requires.sound_store c.requires.live (own_at c.args.r c.requires.sound_store c.requires.live c.home_of.ensures c.unwrap-o.ensures)
+pub last_of-requires : goal.last_of-requires
+last_of-requires c = row< c.args.r c.requires.sound_store c.requires.live (own_at c.args.r c.requires.sound_store c.requires.live c.home_of.ensures c.unwrap-o.ensures)
 
 pub unwrap-last-requires : goal.unwrap-last-requires
 unwrap-last-requires c = last_some c.args.r c.requires.sound_store c.requires.live (own_at c.args.r c.requires.sound_store c.requires.live c.home_of.ensures c.unwrap-o.ensures) c.last_of.ensures

@@ -1,4 +1,4 @@
-use Rattle.sound_parts.proofs.Truncated.{linked}
+use Rattle.linked_list.proofs.Truncated.{linked}
 use Rattle.sound_parts.proofs.parts.Rows.count.Goals as goal
 
 pub count-requires-clause-linked : goal.count-requires-clause-linked

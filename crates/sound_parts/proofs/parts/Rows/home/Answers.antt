@@ -3,7 +3,7 @@ use mathlib.Core.Path.{sym, ◌∙◌}
 use Rattle.seqs.proofs.Cells.{stored}
 use Rattle.linked_list.proofs.Getters.{cells}
 use Rattle.sound_parts.proofs.Laws.{home_le}
-use Rattle.sound_parts.proofs.Truncated.{linked}
+use Rattle.linked_list.proofs.Truncated.{linked}
 use Rattle.sound_parts.proofs.parts.Rows.home.Goals as goal
 
 pub get_container-requires-clause-linked : goal.get_container-requires-clause-linked

@@ -1,4 +1,4 @@
-use Rattle.sound_parts.proofs.Truncated.{linked}
+use Rattle.linked_list.proofs.Truncated.{linked}
 use Rattle.sound_parts.proofs.parts.Rows.list.Goals as goal
 
 pub iter-requires-clause-linked : goal.iter-requires-clause-linked

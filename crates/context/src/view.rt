@@ -1,0 +1,229 @@
+// A sound store lent to readers, and what they read of it.
+ghost use Rattle.std.specs.Prelude.{◌≡◌, ◌<◌, length};
+ghost use Rattle.places.specs.Store.{Live, op, blk, val, usg};
+ghost use Rattle.places.specs.Verdict.{place_stray_user};
+ghost use Rattle.context.specs.Kinds.{kind_of, fam_of};
+ghost use Rattle.context.specs.Layout.{nc_of, nn_of};
+ghost use Rattle.context.specs.Memory.{con, state_of, Finds, LooksUp, SoundStore, HomeIs, LengthIs, RoomIs, GrowIs, FirstIs};
+ghost use Rattle.context.specs.Reading.{list_of, NextIs, NodesAre, LastIs, NthIs, NumberIs, LiveIs, NextNumberIs, NthLiveIs, AtLive, AnyOf, TagIs, DefinitionIs, UserIs, BlockOf};
+
+use super::{
+    Family, Kind, Layout, family_span, flags_at, missing, table_span, types_at, use_set_of,
+};
+use edit::{MOST_LISTED, Refusal, Slot};
+use linked_list::Nodes;
+
+// The words of a sound store, and where their parts stand.
+#[derive(Clone, Copy)]
+pub struct View<'a> {
+    pub words: &'a [u32],
+    pub layout: Layout,
+    pub ghost sound: { ∥ SoundStore layout words.now ∥₁ },
+}
+
+// Kept (point 2): as in lib.rt, each function over a table or a family of lists calls another one of the arena or of `Lists`.
+impl<'a> View<'a> {
+    // The place of the live thing of the kind `k` with this number.
+    pub fn find(&self, k: Kind, number: u32) -> Option<usize>
+        ensures { Finds (state_of self.now.layout self.now.words.now) (kind_of k) number result }
+    {
+        let t = table_span(self.layout, k);
+        arena::find(&self.words[t.at..t.end], t.places, number)
+    }
+
+    // The same place, or the refusal.
+    pub fn look_up(&self, k: Kind, number: u32) -> Result<usize, Refusal>
+        ensures { LooksUp (state_of self.now.layout self.now.words.now) (kind_of k) number result }
+    {
+        self.find(k, number).ok_or(missing(k))
+    }
+
+    // The list of the family `f` that the node `n` stands in.
+    pub fn home_of(&self, f: Family, n: usize) -> Option<usize>
+        requires { n < nn_of self.now.layout (fam_of f) }
+        ensures { HomeIs self.now.layout (fam_of f) n self.now.words.now result }
+    {
+        super::home_of(self.words, self.layout, f, n)
+    }
+
+    // How long the list `k` of the family `f` is.
+    pub fn row_length(&self, f: Family, k: usize) -> usize
+        requires { k < nc_of self.now.layout (fam_of f) }
+        ensures { LengthIs self.now.layout (fam_of f) k self.now.words.now result }
+    {
+        let s = family_span(self.layout, f);
+        s.lists.count(&self.words[s.at..s.end], k)
+    }
+
+    // The place of the first of the list `k` of the family `f`.
+    pub fn first_of(&self, f: Family, k: usize) -> Option<usize>
+        requires { k < nc_of self.now.layout (fam_of f) }
+        ensures { FirstIs self.now.layout (fam_of f) k self.now.words.now result }
+    {
+        super::first_of(self.words, self.layout, f, k)
+    }
+
+    // The place of the node after `n` in its list of the family `f`.
+    pub fn next_of(&self, f: Family, n: usize) -> Option<usize>
+        requires { n < nn_of self.now.layout (fam_of f) }
+        ensures { NextIs self.now.layout (fam_of f) n self.now.words.now result }
+    {
+        let s = family_span(self.layout, f);
+        s.lists.get_next(&self.words[s.at..s.end], n)
+    }
+
+    // The place of the last of the list `k` of the family `f`.
+    pub fn last_of(&self, f: Family, k: usize) -> Option<usize>
+        requires { k < nc_of self.now.layout (fam_of f) }
+        ensures { LastIs self.now.layout (fam_of f) k self.now.words.now result }
+    {
+        let s = family_span(self.layout, f);
+        s.lists.get_tail(&self.words[s.at..s.end], k)
+    }
+
+    // The place of the node at index `i` of the list `k` of the family `f`.
+    pub fn nth_of(&self, f: Family, k: usize, i: usize) -> usize
+        requires k_bound { k < nc_of self.now.layout (fam_of f) }
+        requires i_in_bounds { i < length (list_of self.now.layout self.now.words.now (con self.now.layout (fam_of f) k)) }
+        ensures { NthIs self.now.layout (fam_of f) k i self.now.words.now result }
+    {
+        let s = family_span(self.layout, f);
+        s.lists.nth(&self.words[s.at..s.end], k, i)
+    }
+
+    // The places of the nodes of the list `k` of the family `f`, from first to last.
+    pub fn nodes(&self, f: Family, k: usize) -> Nodes<'a>
+        requires { k < nc_of self.now.layout (fam_of f) }
+        ensures { NodesAre self.now.layout (fam_of f) k self.now.words.now result }
+    {
+        let s = family_span(self.layout, f);
+        s.lists.iter(&self.words[s.at..s.end], k)
+    }
+
+    // Whether a place of the list `k` of the family `f` passes the test.
+    pub fn any_of<F: Fn(usize) -> bool>(&self, f: Family, k: usize, test: F) -> bool
+        requires k_bound { k < nc_of self.now.layout (fam_of f) }
+        requires callable { AtLive self.now.layout (fam_of f) self.now.words.now (F.pre test) }
+        ensures { AnyOf self.now.layout (fam_of f) k self.now.words.now (F.post test) result }
+    {
+        self.nodes(f, k).any(test)
+    }
+
+    // Whether a place and a number are left for a birth of the kind `k`.
+    pub fn room_for(&self, k: Kind) -> Result<(), Refusal>
+        ensures { RoomIs self.now.layout (kind_of k) self.now.words.now result }
+    {
+        let t = table_span(self.layout, k);
+        let s = &self.words[t.at..t.end];
+        if arena::taken(s, t.places) >= t.places {
+            return Err(Refusal::NoPlace);
+        }
+        if arena::upcoming(s, t.places) == u32::MAX {
+            return Err(Refusal::NoNumber);
+        }
+        Ok(())
+    }
+
+    // Whether a list of `n` things of the kind `k` can grow at index `i`.
+    pub fn may_grow(&self, k: Kind, n: usize, i: usize) -> Result<(), Refusal>
+        ensures { GrowIs self.now.layout (kind_of k) n i self.now.words.now result }
+    {
+        if n < i {
+            return Err(Refusal::NoIndex);
+        }
+        if n >= MOST_LISTED {
+            return Err(Refusal::ListFull);
+        }
+        self.room_for(k)
+    }
+
+    // The birth number of the live thing of the kind `k` at the place `p`.
+    pub fn number_of(&self, k: Kind, p: usize) -> u32
+        requires { Live (state_of self.now.layout self.now.words.now) (kind_of k, p) }
+        ensures { NumberIs self.now.layout (kind_of k) p self.now.words.now result }
+    {
+        let t = table_span(self.layout, k);
+        arena::number_at(&self.words[t.at..t.end], t.places, p)
+    }
+
+    // How many things of the kind `k` live.
+    pub fn live_count(&self, k: Kind) -> usize
+        ensures { LiveIs self.now.layout (kind_of k) self.now.words.now result }
+    {
+        super::live_count(self.words, self.layout, k)
+    }
+
+    // The number of the next birth of the kind `k`.
+    pub fn next_number(&self, k: Kind) -> u32
+        ensures { NextNumberIs self.now.layout (kind_of k) self.now.words.now result }
+    {
+        let t = table_span(self.layout, k);
+        arena::upcoming(&self.words[t.at..t.end], t.places)
+    }
+
+    // The place of the `i`-th live thing of the kind `k`, in rising number.
+    pub fn nth_live(&self, k: Kind, i: usize) -> usize
+        requires { i < length ((state_of self.now.layout self.now.words.now).tab (kind_of k)).order }
+        ensures { NthLiveIs self.now.layout (kind_of k) i self.now.words.now result }
+    {
+        let t = table_span(self.layout, k);
+        arena::nth_live(&self.words[t.at..t.end], t.places, i)
+    }
+
+    // The flags of the operation at the place `p`.
+    pub fn flags_of(&self, p: usize) -> u32
+        requires { p < self.now.layout.ops }
+        ensures { TagIs self.now.layout (op, p) self.now.words.now result }
+    {
+        self.words[flags_at(self.layout) + p]
+    }
+
+    // The type of the value at the place `p`.
+    pub fn type_of(&self, p: usize) -> u32
+        requires { p < self.now.layout.values }
+        ensures { TagIs self.now.layout (val, p) self.now.words.now result }
+    {
+        self.words[types_at(self.layout) + p]
+    }
+
+    // The number of the value or of the block that the use at the place `u` is a use of.
+    pub fn definition_number(&self, u: usize) -> u32
+        requires { Live (state_of self.now.layout self.now.words.now) (usg, u) }
+        ensures { DefinitionIs self.now.layout u self.now.words.now result }
+    {
+        let d = self.home_of(Family::UseSets, u).unwrap();
+        if d < self.layout.values {
+            self.number_of(Kind::Value, d)
+        } else {
+            self.number_of(Kind::Block, d - self.layout.values)
+        }
+    }
+
+    // The operation at which the use at the place `u` stands.
+    pub fn user_of(&self, u: usize) -> usize
+        requires { Live (state_of self.now.layout self.now.words.now) (usg, u) }
+        ensures { UserIs self.now.layout u self.now.words.now result }
+    {
+        self.home_of(Family::Slots, u).unwrap() / 2
+    }
+
+    // The block of the operation at which the use at the place `u` stands.
+    pub fn block_of(&self, u: usize) -> Option<usize>
+        requires { Live (state_of self.now.layout self.now.words.now) (usg, u) }
+        ensures { BlockOf self.now.layout u self.now.words.now result }
+    {
+        self.home_of(Family::Operations, self.user_of(u))
+    }
+
+    // Whether a user of the block at the place `b` is in no block.
+    pub fn stray_user(&self, b: usize) -> bool
+        requires { Live (state_of self.now.layout self.now.words.now) (blk, b) }
+        ensures { result ≡ place_stray_user (state_of self.now.layout self.now.words.now) (blk, b) }
+    {
+        self.any_of(
+            Family::UseSets,
+            use_set_of(self.layout, Slot::Successor, b),
+            |u| self.block_of(u).is_none(),
+        )
+    }
+}

@@ -17,7 +17,7 @@ use Rattle.rules.specs.Table.{any, some_and, is_some}
 use Rattle.places.proofs.Steps.{some_inj, some_none, up_live}
 use Rattle.context.specs.declared.Layout.{Layout}
 use Rattle.context.specs.Memory.{con, ListIs, state_of, given, SoundStore, HomeIs}
-use Rattle.context.specs.Reading.{NumberIs, DefinitionIs, UserIs, block_by, BlockOf}
+use Rattle.context.specs.Reading.{NumberIs, DefNumberIs, DefinitionIs, UserIs, block_by, BlockOf}
 use Rattle.context.proofs.Cursor.{row}
 use Rattle.context.proofs.Numbers.{list_there, value_set, block_set}
 
@@ -42,6 +42,20 @@ around_none {l} {f} H e = H.own ∙ ap (λ (i : Option ℕ). con_of (con l f) (g
 pub around_some : {l : Layout} {f : Fam} {n k : ℕ} {m : List ℕ} {h : Option ℕ} → HomeIs l f n m h → h ≡ Some k → (state_of l m).own (node_in f, n) f ≡ some (con l f k)
 around_some {l} {f} H e = H.own ∙ ap (λ (i : Option ℕ). con_of (con l f) (given i)) e
 
+-- ---- the definition whose uses a set has
+
+pub value_live : (l : Layout) (m : List ℕ) {d : ℕ} → d < l.values → Live (state_of l m) (con l use_sets d).1 → Live (state_of l m) (val, d)
+value_live l m {d} v = subst (λ (c : Con). Live (state_of l m) c.1) (value_set l d v)
+
+pub value_number : {l : Layout} {m : List ℕ} {d r : ℕ} → d < l.values → NumberIs l val d m r → DefNumberIs l d m r
+value_number {l} {m} {d} v N = record { is = N.is ∙ ap (λ (c : Con). num (state_of l m) c.1) (sym (value_set l d v)) }
+
+pub block_holds : (l : Layout) (m : List ℕ) {d : ℕ} → l.values ≤ d → Live (state_of l m) (con l use_sets d).1 → Live (state_of l m) (blk, d - l.values)
+block_holds l m {d} v = subst (λ (c : Con). Live (state_of l m) c.1) (block_set l d v)
+
+pub block_number : {l : Layout} {m : List ℕ} {d r : ℕ} → l.values ≤ d → NumberIs l blk (d - l.values) m r → DefNumberIs l d m r
+block_number {l} {m} {d} v N = record { is = N.is ∙ ap (λ (c : Con). num (state_of l m) c.1) (sym (block_set l d v)) }
+
 module _ {l : Layout} {m : List ℕ} (S : SoundStore l m) where
   abbrev P : State
   P = state_of l m
@@ -61,25 +75,11 @@ module _ {l : Layout} {m : List ℕ} (S : SoundStore l m) where
   -- ---- the definition of a use
 
   module _ {u d : ℕ} {h : Option ℕ} (H : HomeIs l use_sets u m h) (e : h ≡ Some d) where
-    definition_live : Live P (con l use_sets d).1
+    pub definition_live : Live P (con l use_sets d).1
     definition_live = (S.sound.linked.link (usg, u) use_sets (con l use_sets d) (around_some H e)).home
 
-    same_number : {r : ℕ} {a : Thing} → (con l use_sets d).1 ≡ a → r ≡ num P a → DefinitionIs l u m r
-    same_number q i = record { is = λ c o. i ∙ ap (num P) (sym q) ∙ ap (λ (x : Con). num P x.1) (some_inj (sym (around_some H e) ∙ o)) }
-
-    module _ (v : d < l.values) where
-      pub value_live : Live P (val, d)
-      value_live = subst (λ (c : Con). Live P c.1) (value_set l d v) definition_live
-
-      pub value_number : {r : ℕ} → NumberIs l val d m r → DefinitionIs l u m r
-      value_number N = same_number (ap (λ (c : Con). c.1) (value_set l d v)) N.is
-
-    module _ (v : l.values ≤ d) where
-      pub block_holds : Live P (blk, d - l.values)
-      block_holds = subst (λ (c : Con). Live P c.1) (block_set l d v) definition_live
-
-      pub block_number : {r : ℕ} → NumberIs l blk (d - l.values) m r → DefinitionIs l u m r
-      block_number N = same_number (ap (λ (c : Con). c.1) (block_set l d v)) N.is
+    pub definition_is : {r : ℕ} → DefNumberIs l d m r → DefinitionIs l u m r
+    definition_is N = record { is = λ c o. N.is ∙ ap (λ (x : Con). num P x.1) (some_inj (sym (around_some H e) ∙ o)) }
 
   -- the block of a use lives
   pub block_live : {u b : ℕ} {r : Option ℕ} → BlockOf l u m r → r ≡ Some b → Live P (blk, b)

@@ -12,9 +12,9 @@ use Rattle.std.proofs.Math.Logic.{∥∥₁_map, by_cases}
 use Rattle.std.specs.Coded.{×_prop, Unit-prop}
 use Rattle.seqs.specs.Seqs.{Rises}
 use Rattle.linked_list.proofs.Truncated.{linked}
-use Rattle.table.specs.Table.{Table, order, count, stamp}
+use Rattle.table.specs.Table.{order, count, stamp}
 use Rattle.arena.specs.Packed.{Packed, front}
-use Rattle.places.specs.Store.{Kind, Kind-dec, op, blk, reg, val, usg, Fam-dec, Fam, slots, use_sets, regs, vals, Role, Thing, Thing-dec, Con, State, Live, Ends, up, Fit, UseHeld, Placed, Sound}
+use Rattle.places.specs.Store.{Kind, Kind-dec, op, blk, reg, val, usg, Fam-dec, Fam, slots, use_sets, regs, vals, Role, Thing, Thing-dec, Con, State, Ends, up, Fit, Placed, Sound}
 use Rattle.places.proofs.Steps.{some_inj, some_none}
 use Rattle.context.specs.declared.Layout.{Layout}
 use Rattle.context.specs.Layout.{cap_of, nc_of, nn_of, kind_part, fam_part}

@@ -70,6 +70,10 @@ pub record NthLiveIs (l : Layout) (k : Kind) (i : ℕ) (m : List ℕ) (r : ℕ) 
 pub record TagIs (l : Layout) (a : Thing) (m : List ℕ) (r : ℕ) : Type 0 where
   pub is : r ≡ (state_of l m).tag a
 
+-- r is the number of the definition whose uses the set d has
+pub record DefNumberIs (l : Layout) (d : ℕ) (m : List ℕ) (r : ℕ) : Type 0 where
+  pub is : r ≡ num (state_of l m) (con l use_sets d).1
+
 -- r is the number of what the use at the place u is a use of
 pub record DefinitionIs (l : Layout) (u : ℕ) (m : List ℕ) (r : ℕ) : Type 0 where
   pub is : (d : Con) → (state_of l m).own (usg, u) use_sets ≡ some d → r ≡ num (state_of l m) d.1

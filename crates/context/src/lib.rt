@@ -1,4 +1,4 @@
-// The store in one lent memory: its layout, start, tables and the check of its parts. The parts are lent to the lower crates.
+// The store in one lent memory: its layout, start, tables, look-ups and the check of its parts. The parts are lent to the lower crates.
 // After context.rs of pliron 0.20.0 (Apache-2.0); the modules are after the files that they are named after.
 #![tactic(auto)]
 
@@ -16,15 +16,15 @@ ghost use Rattle.places.specs.Store.{Live, op, val, slots, use_sets, vals};
 ghost use Rattle.places.specs.Roles.{missing_code, slot_role, def_kind, def_role, value_role, member_kind};
 ghost use Rattle.context.specs.Kinds.{kind_of, fam_of, IsNested, IsMember, IsMemberFamily, IsInnerFamily, IsNode};
 ghost use Rattle.context.specs.Layout.{cap_of, nc_of, nn_of, total, Caps, TableAt, FamilyAt, FamiliesAt, SpanOf, RoomOf, TagsAt, TotalIs, HasTag};
-ghost use Rattle.context.specs.Memory.{ListIs, state_of, Well, RoomFor, Borne, Finished, HomeIs, FirstIs};
-ghost use Rattle.context.specs.Reading.{LiveIs};
+ghost use Rattle.context.specs.Memory.{con, ListIs, state_of, Well, RoomFor, Borne, Finished, Finds, HomeIs, LengthIs, RoomIs, GrowIs, FirstIs};
+ghost use Rattle.context.specs.Reading.{list_of, NextIs, LastIs, NthIs, NumberIs, LiveIs, NextNumberIs, NthLiveIs};
 ghost use Rattle.context.specs.Steps.{Started};
 ghost use Rattle.context.specs.Start.{StartIs, WordsNeeded};
 ghost use Rattle.context.specs.Checked.{Headed, Fits, TableOk, FamilyOk, TablesOk, FamiliesOk, SpareAt, SpareIn, SpareOk};
 ghost use Rattle.arena.specs.Packed.{Packed};
 ghost use Rattle.seqs.specs.Seqs.{Says};
 
-use edit::{Member, Nested, Refusal, Slot};
+use edit::{MOST_LISTED, Member, Nested, Refusal, Slot};
 use linked_list::Lists;
 
 // What lives in a store.
@@ -289,6 +289,15 @@ pub fn finish(m: &mut [u32], l: Layout, k: Kind, p: usize)
     arena::end(&mut m[t.at..t.end], t.places, p);
 }
 
+// The place of the live thing of the kind `k` with this number.
+pub fn find(m: &[u32], l: Layout, k: Kind, number: u32) -> Option<usize>
+    requires { Well l m.now }
+    ensures { Finds (state_of l m.now) (kind_of k) number result }
+{
+    let t = table_span(l, k);
+    arena::find(&m[t.at..t.end], t.places, number)
+}
+
 // The refusal where no live thing of the kind `k` has the number.
 pub fn missing(k: Kind) -> Refusal
     ensures { number_of result ≡ missing_code (kind_of k) }
@@ -313,6 +322,16 @@ pub fn home_of(m: &[u32], l: Layout, f: Family, n: usize) -> Option<usize>
     s.lists.get_container(&m[s.at..s.end], n)
 }
 
+// How long the list `k` of the family `f` is.
+pub fn row_length(m: &[u32], l: Layout, f: Family, k: usize) -> usize
+    requires well { Well l m.now }
+    requires k_bound { k < nc_of l (fam_of f) }
+    ensures { LengthIs l (fam_of f) k m.now result }
+{
+    let s = family_span(l, f);
+    s.lists.count(&m[s.at..s.end], k)
+}
+
 // The place of the first of the list `k` of the family `f`.
 pub fn first_of(m: &[u32], l: Layout, f: Family, k: usize) -> Option<usize>
     requires well { Well l m.now }
@@ -323,6 +342,77 @@ pub fn first_of(m: &[u32], l: Layout, f: Family, k: usize) -> Option<usize>
     s.lists.get_head(&m[s.at..s.end], k)
 }
 
+// The place of the node after `n` in its list of the family `f`.
+pub fn next_of(m: &[u32], l: Layout, f: Family, n: usize) -> Option<usize>
+    requires well { Well l m.now }
+    requires n_bound { n < nn_of l (fam_of f) }
+    ensures { NextIs l (fam_of f) n m.now result }
+{
+    let s = family_span(l, f);
+    s.lists.get_next(&m[s.at..s.end], n)
+}
+
+// The place of the last of the list `k` of the family `f`.
+pub fn last_of(m: &[u32], l: Layout, f: Family, k: usize) -> Option<usize>
+    requires well { Well l m.now }
+    requires k_bound { k < nc_of l (fam_of f) }
+    ensures { LastIs l (fam_of f) k m.now result }
+{
+    let s = family_span(l, f);
+    s.lists.get_tail(&m[s.at..s.end], k)
+}
+
+// The place of the node at index `i` of the list `k` of the family `f`.
+pub fn nth_of(m: &[u32], l: Layout, f: Family, k: usize, i: usize) -> usize
+    requires well { Well l m.now }
+    requires k_bound { k < nc_of l (fam_of f) }
+    requires i_in_bounds { i < length (list_of l m.now (con l (fam_of f) k)) }
+    ensures { NthIs l (fam_of f) k i m.now result }
+{
+    let s = family_span(l, f);
+    s.lists.nth(&m[s.at..s.end], k, i)
+}
+
+// Whether a place and a number are left for a birth of the kind `k`.
+pub fn room_for(m: &[u32], l: Layout, k: Kind) -> Result<(), Refusal>
+    requires { Well l m.now }
+    ensures { RoomIs l (kind_of k) m.now result }
+{
+    let t = table_span(l, k);
+    let s = &m[t.at..t.end];
+    if arena::taken(s, t.places) >= t.places {
+        return Err(Refusal::NoPlace);
+    }
+    if arena::upcoming(s, t.places) == u32::MAX {
+        return Err(Refusal::NoNumber);
+    }
+    Ok(())
+}
+
+// Whether a list of `n` things of the kind `k` can grow at index `i`.
+pub fn may_grow(m: &[u32], l: Layout, k: Kind, n: usize, i: usize) -> Result<(), Refusal>
+    requires { Well l m.now }
+    ensures { GrowIs l (kind_of k) n i m.now result }
+{
+    if n < i {
+        return Err(Refusal::NoIndex);
+    }
+    if n >= MOST_LISTED {
+        return Err(Refusal::ListFull);
+    }
+    room_for(m, l, k)
+}
+
+// The birth number of the live thing of the kind `k` at the place `p`.
+pub fn number_of(m: &[u32], l: Layout, k: Kind, p: usize) -> u32
+    requires well { Well l m.now }
+    requires live { Live (state_of l m.now) (kind_of k, p) }
+    ensures { NumberIs l (kind_of k) p m.now result }
+{
+    let t = table_span(l, k);
+    arena::number_at(&m[t.at..t.end], t.places, p)
+}
+
 // How many things of the kind `k` live.
 pub fn live_count(m: &[u32], l: Layout, k: Kind) -> usize
     requires { Well l m.now }
@@ -330,6 +420,25 @@ pub fn live_count(m: &[u32], l: Layout, k: Kind) -> usize
 {
     let t = table_span(l, k);
     arena::taken(&m[t.at..t.end], t.places)
+}
+
+// The number of the next birth of the kind `k`.
+pub fn next_number(m: &[u32], l: Layout, k: Kind) -> u32
+    requires { Well l m.now }
+    ensures { NextNumberIs l (kind_of k) m.now result }
+{
+    let t = table_span(l, k);
+    arena::upcoming(&m[t.at..t.end], t.places)
+}
+
+// The place of the `i`-th live thing of the kind `k`, in rising number.
+pub fn nth_live(m: &[u32], l: Layout, k: Kind, i: usize) -> usize
+    requires well { Well l m.now }
+    requires i_in_bounds { i < length ((state_of l m.now).tab (kind_of k)).order }
+    ensures { NthLiveIs l (kind_of k) i m.now result }
+{
+    let t = table_span(l, k);
+    arena::nth_live(&m[t.at..t.end], t.places, i)
 }
 
 // Where the flags start: past the last family.

@@ -3,6 +3,7 @@ ghost use Rattle.std.specs.Prelude.{◌≤◌, ◌<◌};
 ghost use Rattle.places.specs.Store.{op, slots};
 ghost use Rattle.context.specs.Layout.{nc_of};
 ghost use Rattle.context.specs.Memory.{state_of, Well, SoundStore, RoomFor, MayTag, Tagged};
+ghost use Rattle.context.specs.Reading.{TagIs};
 ghost use Rattle.context.specs.Steps.{BorneOp, DroppedAll, CanEnd, Ended};
 
 use super::lists::detach;
@@ -17,6 +18,15 @@ pub fn put_flags(m: &mut [u32], l: Layout, p: usize, v: u32)
     ensures { Tagged l (op, p) v m.old m.new }
 {
     m[flags_at(l) + p] = v;
+}
+
+// The flags of the operation at the place `p`.
+pub fn flags_of(m: &[u32], l: Layout, p: usize) -> u32
+    requires well { Well l m.now }
+    requires p_lt_ops { p < l.ops }
+    ensures { TagIs l (op, p) m.now result }
+{
+    m[flags_at(l) + p]
 }
 
 // An operation is born, in no block and with empty lists.

@@ -3,10 +3,11 @@ ghost use Rattle.std.specs.Prelude.{◌<◌};
 ghost use Rattle.places.specs.Store.{Live, val, usg, vals, use_sets, slots};
 ghost use Rattle.context.specs.Layout.{nc_of};
 ghost use Rattle.context.specs.Memory.{con, state_of, Well, SoundStore, MayTag, Tagged};
+ghost use Rattle.context.specs.Reading.{TagIs, DefNumberIs};
 ghost use Rattle.context.specs.Steps.{CanMove, Moved, EndedUse, CanBear, BorneUse, Unused, EndedValue, CanBearValue, BorneValue};
 
 use super::lists::{enter_at, enter_back, leave};
-use super::{Family, Kind, Layout, bear, finish, types_at};
+use super::{Family, Kind, Layout, bear, finish, number_of, types_at};
 
 // The value at the place `p` gets the type `v`; at a free place it is 0.
 pub fn put_type(m: &mut [u32], l: Layout, p: usize, v: u32)
@@ -16,6 +17,15 @@ pub fn put_type(m: &mut [u32], l: Layout, p: usize, v: u32)
     ensures { Tagged l (val, p) v m.old m.new }
 {
     m[types_at(l) + p] = v;
+}
+
+// The type of the value at the place `p`.
+pub fn type_of(m: &[u32], l: Layout, p: usize) -> u32
+    requires well { Well l m.now }
+    requires p_lt_values { p < l.values }
+    ensures { TagIs l (val, p) m.now result }
+{
+    m[types_at(l) + p]
 }
 
 // A value of the type `t` is born at index `i` of the list `k` of results and arguments.
@@ -75,4 +85,17 @@ pub fn end_use(m: &mut [u32], l: Layout, u: usize)
     leave(m, l, Family::Slots, u);
     leave(m, l, Family::UseSets, u);
     finish(m, l, Kind::Use, u);
+}
+
+// The number of the value or of the block whose uses the set `d` has.
+pub fn definition_number(m: &[u32], l: Layout, d: usize) -> u32
+    requires well { Well l m.now }
+    requires live { Live (state_of l m.now) (con l use_sets d).1 }
+    ensures { DefNumberIs l d m.now result }
+{
+    if d < l.values {
+        number_of(m, l, Kind::Value, d)
+    } else {
+        number_of(m, l, Kind::Block, d - l.values)
+    }
 }

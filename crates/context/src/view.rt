@@ -7,10 +7,8 @@ ghost use Rattle.context.specs.Layout.{nc_of, nn_of};
 ghost use Rattle.context.specs.Memory.{con, state_of, Finds, LooksUp, SoundStore, HomeIs, LengthIs, RoomIs, GrowIs, FirstIs};
 ghost use Rattle.context.specs.Reading.{list_of, NextIs, NodesAre, LastIs, NthIs, NumberIs, LiveIs, NextNumberIs, NthLiveIs, AtLive, AnyOf, TagIs, DefinitionIs, UserIs, BlockOf};
 
-use super::{
-    Family, Kind, Layout, family_span, flags_at, missing, table_span, types_at, use_set_of,
-};
-use edit::{MOST_LISTED, Refusal, Slot};
+use super::{Family, Kind, Layout, family_span, missing, use_set_of};
+use edit::{Refusal, Slot};
 use linked_list::Nodes;
 
 // The words of a sound store, and where their parts stand.
@@ -21,14 +19,13 @@ pub struct View<'a> {
     pub ghost sound: { ∥ SoundStore layout words.now ∥₁ },
 }
 
-// Kept (point 2): as in lib.rt, each function over a table or a family of lists calls another one of the arena or of `Lists`.
+// Kept (point 2): each reads by the function of the same name, which asks less: that the parts are well formed.
 impl<'a> View<'a> {
     // The place of the live thing of the kind `k` with this number.
     pub fn find(&self, k: Kind, number: u32) -> Option<usize>
         ensures { Finds (state_of self.now.layout self.now.words.now) (kind_of k) number result }
     {
-        let t = table_span(self.layout, k);
-        arena::find(&self.words[t.at..t.end], t.places, number)
+        super::find(self.words, self.layout, k, number)
     }
 
     // The same place, or the refusal.
@@ -51,8 +48,7 @@ impl<'a> View<'a> {
         requires { k < nc_of self.now.layout (fam_of f) }
         ensures { LengthIs self.now.layout (fam_of f) k self.now.words.now result }
     {
-        let s = family_span(self.layout, f);
-        s.lists.count(&self.words[s.at..s.end], k)
+        super::row_length(self.words, self.layout, f, k)
     }
 
     // The place of the first of the list `k` of the family `f`.
@@ -68,8 +64,7 @@ impl<'a> View<'a> {
         requires { n < nn_of self.now.layout (fam_of f) }
         ensures { NextIs self.now.layout (fam_of f) n self.now.words.now result }
     {
-        let s = family_span(self.layout, f);
-        s.lists.get_next(&self.words[s.at..s.end], n)
+        super::next_of(self.words, self.layout, f, n)
     }
 
     // The place of the last of the list `k` of the family `f`.
@@ -77,8 +72,7 @@ impl<'a> View<'a> {
         requires { k < nc_of self.now.layout (fam_of f) }
         ensures { LastIs self.now.layout (fam_of f) k self.now.words.now result }
     {
-        let s = family_span(self.layout, f);
-        s.lists.get_tail(&self.words[s.at..s.end], k)
+        super::last_of(self.words, self.layout, f, k)
     }
 
     // The place of the node at index `i` of the list `k` of the family `f`.
@@ -87,8 +81,7 @@ impl<'a> View<'a> {
         requires i_in_bounds { i < length (list_of self.now.layout self.now.words.now (con self.now.layout (fam_of f) k)) }
         ensures { NthIs self.now.layout (fam_of f) k i self.now.words.now result }
     {
-        let s = family_span(self.layout, f);
-        s.lists.nth(&self.words[s.at..s.end], k, i)
+        super::nth_of(self.words, self.layout, f, k, i)
     }
 
     // The places of the nodes of the list `k` of the family `f`, from first to last.
@@ -113,28 +106,14 @@ impl<'a> View<'a> {
     pub fn room_for(&self, k: Kind) -> Result<(), Refusal>
         ensures { RoomIs self.now.layout (kind_of k) self.now.words.now result }
     {
-        let t = table_span(self.layout, k);
-        let s = &self.words[t.at..t.end];
-        if arena::taken(s, t.places) >= t.places {
-            return Err(Refusal::NoPlace);
-        }
-        if arena::upcoming(s, t.places) == u32::MAX {
-            return Err(Refusal::NoNumber);
-        }
-        Ok(())
+        super::room_for(self.words, self.layout, k)
     }
 
     // Whether a list of `n` things of the kind `k` can grow at index `i`.
     pub fn may_grow(&self, k: Kind, n: usize, i: usize) -> Result<(), Refusal>
         ensures { GrowIs self.now.layout (kind_of k) n i self.now.words.now result }
     {
-        if n < i {
-            return Err(Refusal::NoIndex);
-        }
-        if n >= MOST_LISTED {
-            return Err(Refusal::ListFull);
-        }
-        self.room_for(k)
+        super::may_grow(self.words, self.layout, k, n, i)
     }
 
     // The birth number of the live thing of the kind `k` at the place `p`.
@@ -142,8 +121,7 @@ impl<'a> View<'a> {
         requires { Live (state_of self.now.layout self.now.words.now) (kind_of k, p) }
         ensures { NumberIs self.now.layout (kind_of k) p self.now.words.now result }
     {
-        let t = table_span(self.layout, k);
-        arena::number_at(&self.words[t.at..t.end], t.places, p)
+        super::number_of(self.words, self.layout, k, p)
     }
 
     // How many things of the kind `k` live.
@@ -157,8 +135,7 @@ impl<'a> View<'a> {
     pub fn next_number(&self, k: Kind) -> u32
         ensures { NextNumberIs self.now.layout (kind_of k) self.now.words.now result }
     {
-        let t = table_span(self.layout, k);
-        arena::upcoming(&self.words[t.at..t.end], t.places)
+        super::next_number(self.words, self.layout, k)
     }
 
     // The place of the `i`-th live thing of the kind `k`, in rising number.
@@ -166,8 +143,7 @@ impl<'a> View<'a> {
         requires { i < length ((state_of self.now.layout self.now.words.now).tab (kind_of k)).order }
         ensures { NthLiveIs self.now.layout (kind_of k) i self.now.words.now result }
     {
-        let t = table_span(self.layout, k);
-        arena::nth_live(&self.words[t.at..t.end], t.places, i)
+        super::nth_live(self.words, self.layout, k, i)
     }
 
     // The flags of the operation at the place `p`.
@@ -175,7 +151,7 @@ impl<'a> View<'a> {
         requires { p < self.now.layout.ops }
         ensures { TagIs self.now.layout (op, p) self.now.words.now result }
     {
-        self.words[flags_at(self.layout) + p]
+        super::operation::flags_of(self.words, self.layout, p)
     }
 
     // The type of the value at the place `p`.
@@ -183,7 +159,7 @@ impl<'a> View<'a> {
         requires { p < self.now.layout.values }
         ensures { TagIs self.now.layout (val, p) self.now.words.now result }
     {
-        self.words[types_at(self.layout) + p]
+        super::value::type_of(self.words, self.layout, p)
     }
 
     // The number of the value or of the block that the use at the place `u` is a use of.
@@ -192,11 +168,7 @@ impl<'a> View<'a> {
         ensures { DefinitionIs self.now.layout u self.now.words.now result }
     {
         let d = self.home_of(Family::UseSets, u).unwrap();
-        if d < self.layout.values {
-            self.number_of(Kind::Value, d)
-        } else {
-            self.number_of(Kind::Block, d - self.layout.values)
-        }
+        super::value::definition_number(self.words, self.layout, d)
     }
 
     // The operation at which the use at the place `u` stands.

@@ -1,20 +1,17 @@
 use Rattle.places.specs.Store.{usg}
 use Rattle.context.proofs.Places.{place<}
-use Rattle.context.proofs.Users.{value_live, value_number, block_holds, block_number}
-use Rattle.context.proofs.Viewed.{sound_of}
+use Rattle.context.proofs.Users.{definition_live, definition_is}
+use Rattle.context.proofs.Viewed.{well_of, sound_of}
 use Rattle.context.proofs.view.View.definition_number.Goals as goal
 
 pub home_of-requires : goal.home_of-requires
 home_of-requires c = place< (sound_of c.args.self.now.sound) (usg, c.args.u) c.requires
 
-pub number_of-requires : goal.number_of-requires
-number_of-requires c = value_live (sound_of c.args.self.now.sound) c.home_of.ensures c.unwrap-d.ensures c.if-d-self.true
+pub definition_number-requires-clause-well : goal.definition_number-requires-clause-well
+definition_number-requires-clause-well c = well_of c.args.self.now.sound
 
-pub number_of-requires-else-d-self : goal.number_of-requires-else-d-self
-number_of-requires-else-d-self c = block_holds (sound_of c.args.self.now.sound) c.home_of.ensures c.unwrap-d.ensures c.if-d-self.false
+pub definition_number-requires-clause-live : goal.definition_number-requires-clause-live
+definition_number-requires-clause-live c = definition_live (sound_of c.args.self.now.sound) c.home_of.ensures c.unwrap-d.ensures
 
-pub returns-then-d-self : goal.returns-then-d-self
-returns-then-d-self c = value_number (sound_of c.args.self.now.sound) c.home_of.ensures c.unwrap-d.ensures c.if-d-self.true c.number_of.ensures
-
-pub returns-else-d-self : goal.returns-else-d-self
-returns-else-d-self c = block_number (sound_of c.args.self.now.sound) c.home_of.ensures c.unwrap-d.ensures c.if-d-self.false c.number_of-else-d-self.ensures
+pub returns : goal.returns
+returns c = definition_is (sound_of c.args.self.now.sound) c.home_of.ensures c.unwrap-d.ensures c.definition_number.ensures

@@ -1,19 +1,5 @@
-use Rattle.std.proofs.Common.{arith}
-use Rattle.context.proofs.Books.{packed, full, ran_out, roomy}
 use Rattle.context.proofs.Viewed.{well_of}
 use Rattle.context.proofs.view.View.room_for.Goals as goal
 
-pub taken-requires : goal.taken-requires
-taken-requires c = packed (well_of c.args.self.now.sound) c.table_span-t.ensures
-
-pub returns-then-taken-t : goal.returns-then-taken-t
-returns-then-taken-t c = full (well_of c.args.self.now.sound) c.table_span-t.ensures c.taken.ensures (λ h. omega (arith, h, c.table_span-t.ensures.capacity, c.if-taken-t.true))
-
-pub upcoming-requires : goal.upcoming-requires
-upcoming-requires c = packed (well_of c.args.self.now.sound) c.table_span-t.ensures
-
-pub returns-then-upcoming : goal.returns-then-upcoming
-returns-then-upcoming c = ran_out (well_of c.args.self.now.sound) c.table_span-t.ensures c.taken.ensures c.upcoming.ensures (omega (arith, c.table_span-t.ensures.capacity, c.if-taken-t.false)) (λ h. omega (arith, h, c.if-upcoming.true))
-
-pub returns : goal.returns
-returns c = roomy (well_of c.args.self.now.sound) c.table_span-t.ensures c.taken.ensures c.upcoming.ensures (omega (arith, c.table_span-t.ensures.capacity, c.if-taken-t.false)) (omega (arith, c.upcoming.type_inv, c.if-upcoming.false))
+pub room_for-requires : goal.room_for-requires
+room_for-requires c = well_of c.args.self.now.sound

@@ -14,6 +14,7 @@ ghost use Rattle.seqs.specs.Seqs.{Says};
 ghost use Rattle.seqs.specs.Entries.{lookup, places};
 
 // How many cells the table has: the map starts after them.
+#[inline(always)]
 pub fn front_len(n: usize) -> usize
     requires { n ≤ 16384 }
     ensures { result ≡ cells n }
@@ -22,6 +23,7 @@ pub fn front_len(n: usize) -> usize
 }
 
 // How many cells an arena of `n` places has: its table's, and two for each 64 places of the map.
+#[inline(always)]
 pub fn size(n: usize) -> usize
     requires { n ≤ 16384 }
     ensures { result ≡ cells n + words n }
@@ -30,6 +32,7 @@ pub fn size(n: usize) -> usize
 }
 
 // The place of the live thing with this number; nothing where it has ended or was never born.
+#[inline(always)]
 pub fn find(m: &[u32], n: usize, number: u32) -> Option<usize>
     requires { Packed n m.now }
     ensures { result ≡ find_in (live n (front n m.now)) number }
@@ -108,6 +111,7 @@ pub fn check(m: &[u32], n: usize) -> bool
 }
 
 // How many things live.
+#[inline(always)]
 pub fn taken(m: &[u32], n: usize) -> usize
     requires { Packed n m.now }
     ensures { result ≡ count (front n m.now) }
@@ -116,6 +120,7 @@ pub fn taken(m: &[u32], n: usize) -> usize
 }
 
 // The next birth number.
+#[inline(always)]
 pub fn upcoming(m: &[u32], n: usize) -> u32
     requires { Packed n m.now }
     ensures { result ≡ next (front n m.now) }
@@ -124,6 +129,7 @@ pub fn upcoming(m: &[u32], n: usize) -> u32
 }
 
 // Whether a thing lives at place `p`.
+#[inline(always)]
 pub fn is_live(m: &[u32], n: usize, p: usize) -> bool
     requires { Packed n m.now }
     ensures { Says result (Alive n m.now p) }
@@ -132,6 +138,7 @@ pub fn is_live(m: &[u32], n: usize, p: usize) -> bool
 }
 
 // The birth number of the thing at place `p`.
+#[inline(always)]
 pub fn number_at(m: &[u32], n: usize, p: usize) -> u32
     requires { Packed n m.now × Alive n m.now p }
     ensures { result ≡ lookup (live n (front n m.now)) p }
@@ -140,6 +147,7 @@ pub fn number_at(m: &[u32], n: usize, p: usize) -> u32
 }
 
 // The place of the `k`-th thing alive, by rising birth number.
+#[inline(always)]
 pub fn nth_live(m: &[u32], n: usize, k: usize) -> usize
     requires { Packed n m.now × (k < count (front n m.now)) }
     ensures { result ≡ get_or (places (live n (front n m.now))) k 0 }

@@ -6,6 +6,7 @@ ghost use Rattle.std.specs.Prelude.{◌≡◌, ◌+◌, ◌*◌, ◌/◌, ◌%�
 ghost use Rattle.bits.specs.Map.{bit, lowest, Ones, Full, Opens, Skipped, Flipped, Cleared};
 
 // Two cells, from `k` on, as one word of 64 bits.
+#[inline(always)]
 fn word(b: &[u32], k: usize) -> u64
     requires { k + 1 < length b.now }
     ensures { result ≡ get_or b.now (k + 1) 0 * 4294967296 + get_or b.now k 0 }
@@ -15,6 +16,7 @@ fn word(b: &[u32], k: usize) -> u64
 
 // Kept (point 2): the count of the zeros of a complement does not say by itself that it names the first place free of the word.
 // How many of the lowest bits of `w` are set.
+#[inline(always)]
 fn ones(w: u64) -> u32
     ensures { Ones w result }
 {
@@ -22,6 +24,7 @@ fn ones(w: u64) -> u32
 }
 
 // Whether every place of these cells is marked. The cells' bits in common are taken first, so that there is one test for all.
+#[inline(always)]
 fn is_full(cells: &[u32]) -> bool
     ensures { IsTrue result ↔ Full cells.now }
 {
@@ -59,6 +62,7 @@ pub fn lowest_free(b: &[u32], n: usize) -> Option<usize>
 }
 
 // Marks place `p`, or takes the mark away.
+#[inline(always)]
 pub fn flip(b: &mut [u32], p: usize)
     requires { p < 32 * length b.old }
     ensures { Flipped b.old b.new p }
@@ -67,6 +71,7 @@ pub fn flip(b: &mut [u32], p: usize)
 }
 
 // Whether place `p` is marked.
+#[inline(always)]
 pub fn mark(b: &[u32], p: usize) -> bool
     requires { p < 32 * length b.now }
     ensures { IsTrue result ↔ (bit b.now p ≡ 1) }

@@ -51,6 +51,7 @@ impl<'a> Iterator for Nodes<'a> {
 
     ghost remaining = { item_count (λ rest. rest) };
 
+    #[inline(always)]
     fn next(&mut self) -> Option<usize> {
         let n = self.next?;
         self.next = self.lists.get_next(self.words, n);
@@ -59,6 +60,7 @@ impl<'a> Iterator for Nodes<'a> {
 }
 
 // What a stored number means.
+#[inline(always)]
 fn decode(stored: u32) -> Option<usize>
     ensures { result ≡ decoded stored }
 {
@@ -66,6 +68,7 @@ fn decode(stored: u32) -> Option<usize>
 }
 
 // How a node, a container or none is stored.
+#[inline(always)]
 fn encode(k: Option<usize>) -> u32
     requires fits { code k < 2 ^ 32 }
     ensures { result ≡ code k }
@@ -78,6 +81,7 @@ fn encode(k: Option<usize>) -> u32
 
 impl Lists {
     // Where `s` has the node n's next.
+    #[inline(always)]
     fn next_slot(self, n: usize) -> usize
         requires n_lt_nn { n < self.nn }
         ensures { (result ≡ 2 * self.nc + n) × (result < 2 * self.nc + 3 * self.nn) }
@@ -86,6 +90,7 @@ impl Lists {
     }
 
     // Where `s` has the node n's prev.
+    #[inline(always)]
     fn prev_slot(self, n: usize) -> usize
         requires n_lt_nn { n < self.nn }
         ensures { (result ≡ 2 * self.nc + self.nn + n) × (result < 2 * self.nc + 3 * self.nn) }
@@ -94,6 +99,7 @@ impl Lists {
     }
 
     // Where `s` has the node n's container.
+    #[inline(always)]
     fn home_slot(self, n: usize) -> usize
         requires n_lt_nn { n < self.nn }
         ensures { (result ≡ home self.nc self.nn n) × (result < 2 * self.nc + 3 * self.nn) }
@@ -102,6 +108,7 @@ impl Lists {
     }
 
     // Where `s` has what follows p in c's list: c's head for none, and else the node's next.
+    #[inline(always)]
     fn slot_after(self, p: Option<usize>, c: usize) -> usize
         requires c_lt_nc { (c < self.nc) × (code p ≤ self.nn) }
         ensures { (result ≡ after self.nc (code p) c) × (result < 2 * self.nc + 3 * self.nn) }
@@ -113,6 +120,7 @@ impl Lists {
     }
 
     // Where `s` has what precedes q in c's list: c's tail for none, and else the node's prev.
+    #[inline(always)]
     fn slot_before(self, q: Option<usize>, c: usize) -> usize
         requires c_lt_nc { (c < self.nc) × (code q ≤ self.nn) }
         ensures { (result ≡ before self.nc self.nn (code q) c) × (result < 2 * self.nc + 3 * self.nn) }
@@ -125,6 +133,7 @@ impl Lists {
 
     // Stores that the node n stands between p and q in container c's list. As head and tail are stored like the next and the
     // prev of a node, no case has stores of its own.
+    #[inline(always)]
     fn put_in(self, s: &mut [u32], c: usize, p: Option<usize>, q: Option<usize>, n: usize)
         requires s_len { length s.old ≡ 2 * self.nc + 3 * self.nn }
         requires c_lt_nc { c < self.nc }
@@ -142,6 +151,7 @@ impl Lists {
     }
 
     // Stores that p and q of container c's list stand side by side, and the node n, which stood between them, in no list.
+    #[inline(always)]
     fn take_out(self, s: &mut [u32], c: usize, p: Option<usize>, q: Option<usize>, n: usize)
         requires s_len { length s.old ≡ 2 * self.nc + 3 * self.nn }
         requires c_lt_nc { c < self.nc }
@@ -159,6 +169,7 @@ impl Lists {
     }
 
     /// The head of c's list.
+    #[inline(always)]
     pub fn get_head(self, s: &[u32], c: usize) -> Option<usize>
         requires linked { Linked self.nc self.nn s.now }
         requires c_lt_nc { c < self.nc }
@@ -168,6 +179,7 @@ impl Lists {
     }
 
     /// The tail of c's list.
+    #[inline(always)]
     pub fn get_tail(self, s: &[u32], c: usize) -> Option<usize>
         requires linked { Linked self.nc self.nn s.now }
         requires c_lt_nc { c < self.nc }
@@ -177,6 +189,7 @@ impl Lists {
     }
 
     /// The nodes of c's list, from its head on.
+    #[inline(always)]
     pub fn iter(self, s: &[u32], c: usize) -> Nodes<'_>
         requires linked { Linked self.nc self.nn s.now }
         requires c_lt_nc { c < self.nc }
@@ -209,6 +222,7 @@ impl Lists {
     }
 
     /// The node after n in the list that has n; none for a node in no list.
+    #[inline(always)]
     pub fn get_next(self, s: &[u32], n: usize) -> Option<usize>
         requires linked { Linked self.nc self.nn s.now }
         requires n_lt_nn { n < self.nn }
@@ -218,6 +232,7 @@ impl Lists {
     }
 
     /// The node before n in the list that has n; none for a node in no list.
+    #[inline(always)]
     pub fn get_prev(self, s: &[u32], n: usize) -> Option<usize>
         requires linked { Linked self.nc self.nn s.now }
         requires n_lt_nn { n < self.nn }
@@ -227,6 +242,7 @@ impl Lists {
     }
 
     /// The container whose list has n: none exactly if no list has n, and c exactly if c's list has it.
+    #[inline(always)]
     pub fn get_container(self, s: &[u32], n: usize) -> Option<usize>
         requires linked { Linked self.nc self.nn s.now }
         requires n_lt_nn { n < self.nn }
@@ -312,6 +328,7 @@ impl Lists {
     }
 
     /// Is the node n part of a list?
+    #[inline(always)]
     pub fn is_linked(self, s: &[u32], n: usize) -> bool
         requires linked { Linked self.nc self.nn s.now }
         requires n_lt_nn { n < self.nn }

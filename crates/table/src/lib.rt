@@ -10,6 +10,7 @@ ghost use Rattle.seqs.specs.Seqs.{Says};
 ghost use Rattle.table.specs.Table.{Table, Shape, Ordered, Placed, Rested, Rank, Bracket, Born, Ended, Shifted, Started, next, order, stamp, live, find_in};
 
 // The birth number of the thing at the place `p`; none where it is free.
+#[inline(always)]
 pub fn number_at(t: &[u32], n: usize, p: usize) -> Option<u32>
     requires { Shape n t.now × (p < n) }
     ensures { result ≡ decoded (stamp n t.now p) }
@@ -19,6 +20,7 @@ pub fn number_at(t: &[u32], n: usize, p: usize) -> Option<u32>
 
 // Kept (point 1): the search by halves and the test of the order compare stamps as they are stored, with 0 below all of them.
 // The stamp of the place `p`: its birth number + 1, and 0 where it is free.
+#[inline(always)]
 fn stamp_at(t: &[u32], n: usize, p: usize) -> usize
     requires { Shape n t.now × (p < n) }
     ensures { result ≡ stamp n t.now p }
@@ -27,6 +29,7 @@ fn stamp_at(t: &[u32], n: usize, p: usize) -> usize
 }
 
 // The place of the live thing at index `i` of the order.
+#[inline(always)]
 pub fn order_at(t: &[u32], n: usize, i: usize) -> usize
     requires { Shape n t.now × (i < n) }
     ensures { result ≡ order t.now i }
@@ -35,6 +38,7 @@ pub fn order_at(t: &[u32], n: usize, i: usize) -> usize
 }
 
 // How many live things have a stamp of at most `x`, known to be from `from` to `to`: by halves.
+#[inline(always)]
 fn rank_between(t: &[u32], n: usize, x: usize, from: usize, to: usize) -> usize
     requires { Table n t.now × Bracket n t.now x from to }
     ensures { Rank n t.now x result }
@@ -47,6 +51,7 @@ fn rank_between(t: &[u32], n: usize, x: usize, from: usize, to: usize) -> usize
 
 // How many live things have a stamp of at most `x`. Where d numbers have ended, the number `x` can stand only at an index
 // from x - d to x, so that few steps are left where few have ended, and none where none has.
+#[inline(always)]
 fn rank(t: &[u32], n: usize, x: usize) -> usize
     requires { Table n t.now }
     ensures { Rank n t.now x result }
@@ -59,6 +64,7 @@ fn rank(t: &[u32], n: usize, x: usize) -> usize
 }
 
 // The place of the live thing with this number.
+#[inline(always)]
 pub fn find(t: &[u32], n: usize, number: u32) -> Option<usize>
     requires { Table n t.now }
     ensures { result ≡ find_in (live n t.now) number }

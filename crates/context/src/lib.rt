@@ -40,6 +40,7 @@ pub enum Kind {
 impl From<Nested> for Kind {
     ghost from_gives = { IsNested };
 
+    #[inline(always)]
     fn from(n: Nested) -> Kind {
         match n {
             Nested::Operation => Kind::Operation,
@@ -52,6 +53,7 @@ impl From<Nested> for Kind {
 impl From<Member> for Kind {
     ghost from_gives = { IsMember };
 
+    #[inline(always)]
     fn from(w: Member) -> Kind {
         match w {
             Member::Operation => Kind::Operation,
@@ -75,6 +77,7 @@ pub enum Family {
 impl From<Member> for Family {
     ghost from_gives = { IsMemberFamily };
 
+    #[inline(always)]
     fn from(w: Member) -> Family {
         match w {
             Member::Operation => Family::Operations,
@@ -87,6 +90,7 @@ impl From<Nested> for Family {
     ghost from_gives = { IsInnerFamily };
 
     // The family of what lies in a thing.
+    #[inline(always)]
     fn from(n: Nested) -> Family {
         match n {
             Nested::Operation => Family::Regions,
@@ -100,6 +104,7 @@ impl From<Nested> for Family {
 impl From<Family> for Kind {
     ghost from_gives = { IsNode };
 
+    #[inline(always)]
     fn from(f: Family) -> Kind {
         match f {
             Family::Slots | Family::UseSets => Kind::Use,
@@ -147,6 +152,7 @@ pub struct Span {
 }
 
 // The table of `n` places that starts at `at`.
+#[inline(always)]
 fn table_at(at: usize, n: usize) -> Table
     requires { (at ≤ 600000) × (n ≤ 16384) }
     ensures { TableAt at n result }
@@ -158,25 +164,33 @@ fn table_at(at: usize, n: usize) -> Table
     }
 }
 
-// Where the table of a kind stands.
+// Where the table of a kind stands: each starts where the one before it ends. No size is worked out that is not needed.
+#[inline]
 pub fn table_span(l: Layout, k: Kind) -> Table
     requires { Caps l }
     ensures { RoomOf l (kind_of k) result }
 {
-    let ops = arena::size(l.ops);
-    let blocks = arena::size(l.blocks);
-    let regions = arena::size(l.regions);
-    let values = arena::size(l.values);
-    match k {
-        Kind::Operation => table_at(5, l.ops),
-        Kind::Block => table_at(5 + ops, l.blocks),
-        Kind::Region => table_at(5 + ops + blocks, l.regions),
-        Kind::Value => table_at(5 + ops + blocks + regions, l.values),
-        Kind::Use => table_at(5 + ops + blocks + regions + values, l.uses),
+    let ops = table_at(5, l.ops);
+    if let Kind::Operation = k {
+        return ops;
     }
+    let blocks = table_at(ops.end, l.blocks);
+    if let Kind::Block = k {
+        return blocks;
+    }
+    let regions = table_at(blocks.end, l.regions);
+    if let Kind::Region = k {
+        return regions;
+    }
+    let values = table_at(regions.end, l.values);
+    if let Kind::Value = k {
+        return values;
+    }
+    table_at(values.end, l.uses)
 }
 
 // Where the families start: past the header and the five tables.
+#[inline(always)]
 fn families_at(l: Layout) -> usize
     requires { Caps l }
     ensures { FamiliesAt l result }
@@ -185,6 +199,7 @@ fn families_at(l: Layout) -> usize
 }
 
 // The family of nc lists and nn nodes that starts at `at`.
+#[inline(always)]
 fn family_at(at: usize, nc: usize, nn: usize) -> Span
     requires small { at ≤ 600000 }
     requires sizes { Sizes nc nn }
@@ -197,31 +212,37 @@ fn family_at(at: usize, nc: usize, nn: usize) -> Span
     }
 }
 
-// Where a family stands: each starts where the one before it ends.
+// Where a family stands, likewise.
+#[inline]
 pub fn family_span(l: Layout, f: Family) -> Span
     requires { Caps l }
     ensures { SpanOf l (fam_of f) result }
 {
-    let a = families_at(l);
-    let slots = 4 * l.ops + 3 * l.uses;
-    let use_sets = 2 * (l.values + l.blocks) + 3 * l.uses;
-    let values = 2 * (l.ops + l.blocks) + 3 * l.values;
-    let regions = 2 * l.ops + 3 * l.regions;
-    let operations = 2 * l.blocks + 3 * l.ops;
-    match f {
-        Family::Slots => family_at(a, 2 * l.ops, l.uses),
-        Family::UseSets => family_at(a + slots, l.values + l.blocks, l.uses),
-        Family::Values => family_at(a + slots + use_sets, l.ops + l.blocks, l.values),
-        Family::Regions => family_at(a + slots + use_sets + values, l.ops, l.regions),
-        Family::Operations => family_at(a + slots + use_sets + values + regions, l.blocks, l.ops),
-        Family::Blocks => {
-            let b = a + slots + use_sets + values + regions + operations;
-            family_at(b, l.regions, l.blocks)
-        }
+    let slots = family_at(families_at(l), 2 * l.ops, l.uses);
+    if let Family::Slots = f {
+        return slots;
     }
+    let use_sets = family_at(slots.end, l.values + l.blocks, l.uses);
+    if let Family::UseSets = f {
+        return use_sets;
+    }
+    let values = family_at(use_sets.end, l.ops + l.blocks, l.values);
+    if let Family::Values = f {
+        return values;
+    }
+    let regions = family_at(values.end, l.ops, l.regions);
+    if let Family::Regions = f {
+        return regions;
+    }
+    let operations = family_at(regions.end, l.blocks, l.ops);
+    if let Family::Operations = f {
+        return operations;
+    }
+    family_at(operations.end, l.regions, l.blocks)
 }
 
 // The kind of what the uses in a slot are uses of.
+#[inline(always)]
 pub fn definition_kind(slot: Slot) -> Kind
     ensures { kind_of result ≡ def_kind (slot_of slot) }
 {
@@ -232,6 +253,7 @@ pub fn definition_kind(slot: Slot) -> Kind
 }
 
 // The list of the operands or of the successors of the operation at the place `o`, among those of the slots.
+#[inline(always)]
 pub fn slots_of(l: Layout, slot: Slot, o: usize) -> usize
     requires caps { Caps l }
     requires o_bound { o < l.ops }
@@ -244,6 +266,7 @@ pub fn slots_of(l: Layout, slot: Slot, o: usize) -> usize
 }
 
 // The list of the uses of the value or of the block at the place `p`, among the use sets.
+#[inline(always)]
 pub fn use_set_of(l: Layout, slot: Slot, p: usize) -> usize
     requires caps { Caps l }
     requires p_bound { p < cap_of l (def_kind (slot_of slot)) }
@@ -256,6 +279,7 @@ pub fn use_set_of(l: Layout, slot: Slot, p: usize) -> usize
 }
 
 // The list of the results of the operation or of the arguments of the block at the place `p`, among those of the values.
+#[inline(always)]
 pub fn values_of(l: Layout, owner: Member, p: usize) -> usize
     requires caps { Caps l }
     requires p_bound { p < cap_of l (member_kind (member_of owner)) }
@@ -299,6 +323,7 @@ pub fn find(m: &[u32], l: Layout, k: Kind, number: u32) -> Option<usize>
 }
 
 // The refusal where no live thing of the kind `k` has the number.
+#[inline(always)]
 pub fn missing(k: Kind) -> Refusal
     ensures { number_of result ≡ missing_code (kind_of k) }
 {
@@ -442,6 +467,7 @@ pub fn nth_live(m: &[u32], l: Layout, k: Kind, i: usize) -> usize
 }
 
 // Where the flags start: past the last family.
+#[inline(always)]
 pub fn flags_at(l: Layout) -> usize
     requires { Caps l }
     ensures { TagsAt l op result }
@@ -450,6 +476,7 @@ pub fn flags_at(l: Layout) -> usize
 }
 
 // Where the types start.
+#[inline(always)]
 fn types_at(l: Layout) -> usize
     requires { Caps l }
     ensures { TagsAt l val result }

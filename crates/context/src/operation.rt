@@ -21,6 +21,7 @@ pub fn put_flags(m: &mut [u32], l: Layout, p: usize, v: u32)
 }
 
 // The flags of the operation at the place `p`.
+#[inline(always)]
 pub fn flags_of(m: &[u32], l: Layout, p: usize) -> u32
     requires well { Well l m.now }
     requires p_lt_ops { p < l.ops }

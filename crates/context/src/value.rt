@@ -20,6 +20,7 @@ pub fn put_type(m: &mut [u32], l: Layout, p: usize, v: u32)
 }
 
 // The type of the value at the place `p`.
+#[inline(always)]
 pub fn type_of(m: &[u32], l: Layout, p: usize) -> u32
     requires well { Well l m.now }
     requires p_lt_values { p < l.values }
@@ -88,6 +89,7 @@ pub fn end_use(m: &mut [u32], l: Layout, u: usize)
 }
 
 // The number of the value or of the block whose uses the set `d` has.
+#[inline(always)]
 pub fn definition_number(m: &[u32], l: Layout, d: usize) -> u32
     requires well { Well l m.now }
     requires live { Live (state_of l m.now) (con l use_sets d).1 }

@@ -22,6 +22,7 @@ pub struct View<'a> {
 // Kept (point 2): each reads by the function of the same name, which asks less: that the parts are well formed.
 impl<'a> View<'a> {
     // The place of the live thing of the kind `k` with this number.
+    #[inline(always)]
     pub fn find(&self, k: Kind, number: u32) -> Option<usize>
         ensures { Finds (state_of self.now.layout self.now.words.now) (kind_of k) number result }
     {
@@ -29,6 +30,7 @@ impl<'a> View<'a> {
     }
 
     // The same place, or the refusal.
+    #[inline(always)]
     pub fn look_up(&self, k: Kind, number: u32) -> Result<usize, Refusal>
         ensures { LooksUp (state_of self.now.layout self.now.words.now) (kind_of k) number result }
     {
@@ -36,6 +38,7 @@ impl<'a> View<'a> {
     }
 
     // The list of the family `f` that the node `n` stands in.
+    #[inline(always)]
     pub fn home_of(&self, f: Family, n: usize) -> Option<usize>
         requires { n < nn_of self.now.layout (fam_of f) }
         ensures { HomeIs self.now.layout (fam_of f) n self.now.words.now result }
@@ -44,6 +47,7 @@ impl<'a> View<'a> {
     }
 
     // How long the list `k` of the family `f` is.
+    #[inline(always)]
     pub fn row_length(&self, f: Family, k: usize) -> usize
         requires { k < nc_of self.now.layout (fam_of f) }
         ensures { LengthIs self.now.layout (fam_of f) k self.now.words.now result }
@@ -52,6 +56,7 @@ impl<'a> View<'a> {
     }
 
     // The place of the first of the list `k` of the family `f`.
+    #[inline(always)]
     pub fn first_of(&self, f: Family, k: usize) -> Option<usize>
         requires { k < nc_of self.now.layout (fam_of f) }
         ensures { FirstIs self.now.layout (fam_of f) k self.now.words.now result }
@@ -60,6 +65,7 @@ impl<'a> View<'a> {
     }
 
     // The place of the node after `n` in its list of the family `f`.
+    #[inline(always)]
     pub fn next_of(&self, f: Family, n: usize) -> Option<usize>
         requires { n < nn_of self.now.layout (fam_of f) }
         ensures { NextIs self.now.layout (fam_of f) n self.now.words.now result }
@@ -68,6 +74,7 @@ impl<'a> View<'a> {
     }
 
     // The place of the last of the list `k` of the family `f`.
+    #[inline(always)]
     pub fn last_of(&self, f: Family, k: usize) -> Option<usize>
         requires { k < nc_of self.now.layout (fam_of f) }
         ensures { LastIs self.now.layout (fam_of f) k self.now.words.now result }
@@ -76,6 +83,7 @@ impl<'a> View<'a> {
     }
 
     // The place of the node at index `i` of the list `k` of the family `f`.
+    #[inline(always)]
     pub fn nth_of(&self, f: Family, k: usize, i: usize) -> usize
         requires k_bound { k < nc_of self.now.layout (fam_of f) }
         requires i_in_bounds { i < length (list_of self.now.layout self.now.words.now (con self.now.layout (fam_of f) k)) }
@@ -85,6 +93,7 @@ impl<'a> View<'a> {
     }
 
     // The places of the nodes of the list `k` of the family `f`, from first to last.
+    #[inline(always)]
     pub fn nodes(&self, f: Family, k: usize) -> Nodes<'a>
         requires { k < nc_of self.now.layout (fam_of f) }
         ensures { NodesAre self.now.layout (fam_of f) k self.now.words.now result }
@@ -94,6 +103,7 @@ impl<'a> View<'a> {
     }
 
     // Whether a place of the list `k` of the family `f` passes the test.
+    #[inline(always)]
     pub fn any_of<F: Fn(usize) -> bool>(&self, f: Family, k: usize, test: F) -> bool
         requires k_bound { k < nc_of self.now.layout (fam_of f) }
         requires callable { AtLive self.now.layout (fam_of f) self.now.words.now (F.pre test) }
@@ -103,6 +113,7 @@ impl<'a> View<'a> {
     }
 
     // Whether a place and a number are left for a birth of the kind `k`.
+    #[inline(always)]
     pub fn room_for(&self, k: Kind) -> Result<(), Refusal>
         ensures { RoomIs self.now.layout (kind_of k) self.now.words.now result }
     {
@@ -110,6 +121,7 @@ impl<'a> View<'a> {
     }
 
     // Whether a list of `n` things of the kind `k` can grow at index `i`.
+    #[inline(always)]
     pub fn may_grow(&self, k: Kind, n: usize, i: usize) -> Result<(), Refusal>
         ensures { GrowIs self.now.layout (kind_of k) n i self.now.words.now result }
     {
@@ -117,6 +129,7 @@ impl<'a> View<'a> {
     }
 
     // The birth number of the live thing of the kind `k` at the place `p`.
+    #[inline(always)]
     pub fn number_of(&self, k: Kind, p: usize) -> u32
         requires { Live (state_of self.now.layout self.now.words.now) (kind_of k, p) }
         ensures { NumberIs self.now.layout (kind_of k) p self.now.words.now result }
@@ -125,6 +138,7 @@ impl<'a> View<'a> {
     }
 
     // How many things of the kind `k` live.
+    #[inline(always)]
     pub fn live_count(&self, k: Kind) -> usize
         ensures { LiveIs self.now.layout (kind_of k) self.now.words.now result }
     {
@@ -132,6 +146,7 @@ impl<'a> View<'a> {
     }
 
     // The number of the next birth of the kind `k`.
+    #[inline(always)]
     pub fn next_number(&self, k: Kind) -> u32
         ensures { NextNumberIs self.now.layout (kind_of k) self.now.words.now result }
     {
@@ -139,6 +154,7 @@ impl<'a> View<'a> {
     }
 
     // The place of the `i`-th live thing of the kind `k`, in rising number.
+    #[inline(always)]
     pub fn nth_live(&self, k: Kind, i: usize) -> usize
         requires { i < length ((state_of self.now.layout self.now.words.now).tab (kind_of k)).order }
         ensures { NthLiveIs self.now.layout (kind_of k) i self.now.words.now result }
@@ -147,6 +163,7 @@ impl<'a> View<'a> {
     }
 
     // The flags of the operation at the place `p`.
+    #[inline(always)]
     pub fn flags_of(&self, p: usize) -> u32
         requires { p < self.now.layout.ops }
         ensures { TagIs self.now.layout (op, p) self.now.words.now result }
@@ -155,6 +172,7 @@ impl<'a> View<'a> {
     }
 
     // The type of the value at the place `p`.
+    #[inline(always)]
     pub fn type_of(&self, p: usize) -> u32
         requires { p < self.now.layout.values }
         ensures { TagIs self.now.layout (val, p) self.now.words.now result }
@@ -163,6 +181,7 @@ impl<'a> View<'a> {
     }
 
     // The number of the value or of the block that the use at the place `u` is a use of.
+    #[inline(always)]
     pub fn definition_number(&self, u: usize) -> u32
         requires { Live (state_of self.now.layout self.now.words.now) (usg, u) }
         ensures { DefinitionIs self.now.layout u self.now.words.now result }
@@ -172,6 +191,7 @@ impl<'a> View<'a> {
     }
 
     // The operation at which the use at the place `u` stands.
+    #[inline(always)]
     pub fn user_of(&self, u: usize) -> usize
         requires { Live (state_of self.now.layout self.now.words.now) (usg, u) }
         ensures { UserIs self.now.layout u self.now.words.now result }
@@ -180,6 +200,7 @@ impl<'a> View<'a> {
     }
 
     // The block of the operation at which the use at the place `u` stands.
+    #[inline(always)]
     pub fn block_of(&self, u: usize) -> Option<usize>
         requires { Live (state_of self.now.layout self.now.words.now) (usg, u) }
         ensures { BlockOf self.now.layout u self.now.words.now result }

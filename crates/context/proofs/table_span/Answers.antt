@@ -1,41 +1,19 @@
-use Rattle.std.proofs.Common.{◌≡◌, ℕ, ◌+◌, rules}
-use Rattle.arena.specs.Packed.{cells, words}
+use Rattle.std.proofs.Common.{rules}
 use Rattle.context.specs.Layout.{arena}
 use Rattle.context.proofs.table_span.Goals as goal
 
--- the words of a table, as the layout counts them
-sized : (n : ℕ) {r : ℕ} → r ≡ cells n + words n → r ≡ arena n
+pub table_at-blocks-requires : goal.table_at-blocks-requires
 unfolding arena
-sized n e = e
+table_at-blocks-requires c = search (c.requires, c.table_at-ops.ensures, rules)
 
-pub returns-in-Block : goal.returns-in-Block
-returns-in-Block c =
-    let o = sized _ c.size-ops.ensures in
-    let b = sized _ c.size-blocks.ensures in
-    let r = sized _ c.size-regions.ensures in
-    let v = sized _ c.size-values.ensures in
-    search rules
+pub table_at-regions-requires : goal.table_at-regions-requires
+unfolding arena
+table_at-regions-requires c = search (c.requires, c.table_at-ops.ensures, c.table_at-blocks.ensures, rules)
 
-pub returns-in-Region : goal.returns-in-Region
-returns-in-Region c =
-    let o = sized _ c.size-ops.ensures in
-    let b = sized _ c.size-blocks.ensures in
-    let r = sized _ c.size-regions.ensures in
-    let v = sized _ c.size-values.ensures in
-    search rules
+pub table_at-values-requires : goal.table_at-values-requires
+unfolding arena
+table_at-values-requires c = search (c.requires, c.table_at-ops.ensures, c.table_at-blocks.ensures, c.table_at-regions.ensures, rules)
 
-pub returns-in-Value : goal.returns-in-Value
-returns-in-Value c =
-    let o = sized _ c.size-ops.ensures in
-    let b = sized _ c.size-blocks.ensures in
-    let r = sized _ c.size-regions.ensures in
-    let v = sized _ c.size-values.ensures in
-    search rules
-
-pub returns-in-Use : goal.returns-in-Use
-returns-in-Use c =
-    let o = sized _ c.size-ops.ensures in
-    let b = sized _ c.size-blocks.ensures in
-    let r = sized _ c.size-regions.ensures in
-    let v = sized _ c.size-values.ensures in
-    search rules
+pub table_at-requires : goal.table_at-requires
+unfolding arena
+table_at-requires c = search (c.requires, c.table_at-ops.ensures, c.table_at-blocks.ensures, c.table_at-regions.ensures, c.table_at-values.ensures, rules)

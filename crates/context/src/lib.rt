@@ -314,6 +314,7 @@ pub fn finish(m: &mut [u32], l: Layout, k: Kind, p: usize)
 }
 
 // The place of the live thing of the kind `k` with this number.
+#[inline(always)]
 pub fn find(m: &[u32], l: Layout, k: Kind, number: u32) -> Option<usize>
     requires { Well l m.now }
     ensures { Finds (state_of l m.now) (kind_of k) number result }
@@ -338,6 +339,7 @@ pub fn missing(k: Kind) -> Refusal
 
 // Kept (point 2): the same for the families of lists and `Lists`.
 // The list of the family `f` that the node `n` stands in.
+#[inline(always)]
 pub fn home_of(m: &[u32], l: Layout, f: Family, n: usize) -> Option<usize>
     requires well { Well l m.now }
     requires n_bound { n < nn_of l (fam_of f) }
@@ -348,6 +350,7 @@ pub fn home_of(m: &[u32], l: Layout, f: Family, n: usize) -> Option<usize>
 }
 
 // How long the list `k` of the family `f` is.
+#[inline(always)]
 pub fn row_length(m: &[u32], l: Layout, f: Family, k: usize) -> usize
     requires well { Well l m.now }
     requires k_bound { k < nc_of l (fam_of f) }
@@ -358,6 +361,7 @@ pub fn row_length(m: &[u32], l: Layout, f: Family, k: usize) -> usize
 }
 
 // The place of the first of the list `k` of the family `f`.
+#[inline(always)]
 pub fn first_of(m: &[u32], l: Layout, f: Family, k: usize) -> Option<usize>
     requires well { Well l m.now }
     requires k_bound { k < nc_of l (fam_of f) }
@@ -368,6 +372,7 @@ pub fn first_of(m: &[u32], l: Layout, f: Family, k: usize) -> Option<usize>
 }
 
 // The place of the node after `n` in its list of the family `f`.
+#[inline(always)]
 pub fn next_of(m: &[u32], l: Layout, f: Family, n: usize) -> Option<usize>
     requires well { Well l m.now }
     requires n_bound { n < nn_of l (fam_of f) }
@@ -378,6 +383,7 @@ pub fn next_of(m: &[u32], l: Layout, f: Family, n: usize) -> Option<usize>
 }
 
 // The place of the last of the list `k` of the family `f`.
+#[inline(always)]
 pub fn last_of(m: &[u32], l: Layout, f: Family, k: usize) -> Option<usize>
     requires well { Well l m.now }
     requires k_bound { k < nc_of l (fam_of f) }
@@ -388,6 +394,7 @@ pub fn last_of(m: &[u32], l: Layout, f: Family, k: usize) -> Option<usize>
 }
 
 // The place of the node at index `i` of the list `k` of the family `f`.
+#[inline(always)]
 pub fn nth_of(m: &[u32], l: Layout, f: Family, k: usize, i: usize) -> usize
     requires well { Well l m.now }
     requires k_bound { k < nc_of l (fam_of f) }
@@ -399,6 +406,7 @@ pub fn nth_of(m: &[u32], l: Layout, f: Family, k: usize, i: usize) -> usize
 }
 
 // Whether a place and a number are left for a birth of the kind `k`.
+#[inline(always)]
 pub fn room_for(m: &[u32], l: Layout, k: Kind) -> Result<(), Refusal>
     requires { Well l m.now }
     ensures { RoomIs l (kind_of k) m.now result }
@@ -415,6 +423,7 @@ pub fn room_for(m: &[u32], l: Layout, k: Kind) -> Result<(), Refusal>
 }
 
 // Whether a list of `n` things of the kind `k` can grow at index `i`.
+#[inline(always)]
 pub fn may_grow(m: &[u32], l: Layout, k: Kind, n: usize, i: usize) -> Result<(), Refusal>
     requires { Well l m.now }
     ensures { GrowIs l (kind_of k) n i m.now result }
@@ -429,6 +438,7 @@ pub fn may_grow(m: &[u32], l: Layout, k: Kind, n: usize, i: usize) -> Result<(),
 }
 
 // The birth number of the live thing of the kind `k` at the place `p`.
+#[inline(always)]
 pub fn number_of(m: &[u32], l: Layout, k: Kind, p: usize) -> u32
     requires well { Well l m.now }
     requires live { Live (state_of l m.now) (kind_of k, p) }
@@ -439,6 +449,7 @@ pub fn number_of(m: &[u32], l: Layout, k: Kind, p: usize) -> u32
 }
 
 // How many things of the kind `k` live.
+#[inline(always)]
 pub fn live_count(m: &[u32], l: Layout, k: Kind) -> usize
     requires { Well l m.now }
     ensures { LiveIs l (kind_of k) m.now result }
@@ -448,6 +459,7 @@ pub fn live_count(m: &[u32], l: Layout, k: Kind) -> usize
 }
 
 // The number of the next birth of the kind `k`.
+#[inline(always)]
 pub fn next_number(m: &[u32], l: Layout, k: Kind) -> u32
     requires { Well l m.now }
     ensures { NextNumberIs l (kind_of k) m.now result }
@@ -457,6 +469,7 @@ pub fn next_number(m: &[u32], l: Layout, k: Kind) -> u32
 }
 
 // The place of the `i`-th live thing of the kind `k`, in rising number.
+#[inline(always)]
 pub fn nth_live(m: &[u32], l: Layout, k: Kind, i: usize) -> usize
     requires well { Well l m.now }
     requires i_in_bounds { i < length ((state_of l m.now).tab (kind_of k)).order }

@@ -12,6 +12,7 @@ use super::{Family, Layout, family_span, home_of};
 use edit::Member;
 
 // The node `n` leaves the list of the family `f` that it stands in.
+#[inline(always)]
 pub fn leave(m: &mut [u32], l: Layout, f: Family, n: usize)
     requires well { Well l m.old }
     requires stands { Stands (state_of l m.old) (node_in (fam_of f), n) (fam_of f) }
@@ -23,6 +24,7 @@ pub fn leave(m: &mut [u32], l: Layout, f: Family, n: usize)
 
 // Kept (point 2): the five that enter call each another function of `Lists`, which asks something else.
 // The node `n` comes to stand first in the list `k` of the family `f`.
+#[inline(always)]
 pub fn enter_front(m: &mut [u32], l: Layout, f: Family, k: usize, n: usize)
     requires well { Well l m.old }
     requires k_bound { (k < nc_of l (fam_of f)) × (n < nn_of l (fam_of f)) }
@@ -34,6 +36,7 @@ pub fn enter_front(m: &mut [u32], l: Layout, f: Family, k: usize, n: usize)
 }
 
 // The node `n` comes to stand at the back of the list `k` of the family `f`.
+#[inline(always)]
 pub fn enter_back(m: &mut [u32], l: Layout, f: Family, k: usize, n: usize)
     requires well { Well l m.old }
     requires k_bound { (k < nc_of l (fam_of f)) × (n < nn_of l (fam_of f)) }
@@ -56,6 +59,7 @@ pub fn enter_at(m: &mut [u32], l: Layout, f: Family, k: usize, i: usize, n: usiz
 }
 
 // The node `n` comes to stand right after the node `mark`, in the mark's list of the family `f`.
+#[inline(always)]
 pub fn enter_after(m: &mut [u32], l: Layout, f: Family, mark: usize, n: usize)
     requires well { Well l m.old }
     requires stands { Stands (state_of l m.old) (node_in (fam_of f), mark) (fam_of f) }
@@ -68,6 +72,7 @@ pub fn enter_after(m: &mut [u32], l: Layout, f: Family, mark: usize, n: usize)
 }
 
 // The node `n` comes to stand right before the node `mark`, in the mark's list of the family `f`.
+#[inline(always)]
 pub fn enter_before(m: &mut [u32], l: Layout, f: Family, mark: usize, n: usize)
     requires well { Well l m.old }
     requires stands { Stands (state_of l m.old) (node_in (fam_of f), mark) (fam_of f) }
@@ -80,6 +85,7 @@ pub fn enter_before(m: &mut [u32], l: Layout, f: Family, mark: usize, n: usize)
 }
 
 // The node `n` leaves its list of the family `f`, if it is in one.
+#[inline(always)]
 pub fn detach(m: &mut [u32], l: Layout, f: Family, n: usize)
     requires well { Well l m.old }
     requires n_bound { n < nn_of l (fam_of f) }
@@ -91,6 +97,7 @@ pub fn detach(m: &mut [u32], l: Layout, f: Family, n: usize)
 }
 
 // The operation or block `n` is put first into the list `k`.
+#[inline(always)]
 pub fn link_front(m: &mut [u32], l: Layout, w: Member, k: usize, n: usize)
     requires sound_store { SoundStore l m.old }
     requires k_bound { (k < nc_of l (member_fam w)) × (n < nn_of l (member_fam w)) }
@@ -101,6 +108,7 @@ pub fn link_front(m: &mut [u32], l: Layout, w: Member, k: usize, n: usize)
 }
 
 // The operation or block `n` is put last into the list `k`.
+#[inline(always)]
 pub fn link_back(m: &mut [u32], l: Layout, w: Member, k: usize, n: usize)
     requires sound_store { SoundStore l m.old }
     requires k_bound { (k < nc_of l (member_fam w)) × (n < nn_of l (member_fam w)) }
@@ -111,6 +119,7 @@ pub fn link_back(m: &mut [u32], l: Layout, w: Member, k: usize, n: usize)
 }
 
 // The operation or block `n` is put right after the node `mark`.
+#[inline(always)]
 pub fn link_after(m: &mut [u32], l: Layout, w: Member, mark: usize, n: usize)
     requires sound_store { SoundStore l m.old }
     requires n_bound { n < nn_of l (member_fam w) }
@@ -121,6 +130,7 @@ pub fn link_after(m: &mut [u32], l: Layout, w: Member, mark: usize, n: usize)
 }
 
 // The operation or block `n` is put right before the node `mark`.
+#[inline(always)]
 pub fn link_before(m: &mut [u32], l: Layout, w: Member, mark: usize, n: usize)
     requires sound_store { SoundStore l m.old }
     requires n_bound { n < nn_of l (member_fam w) }
@@ -131,6 +141,7 @@ pub fn link_before(m: &mut [u32], l: Layout, w: Member, mark: usize, n: usize)
 }
 
 // The operation or block `n` is taken out of its list.
+#[inline(always)]
 pub fn unlink(m: &mut [u32], l: Layout, w: Member, n: usize)
     requires sound_store { SoundStore l m.old }
     requires stands { Stands (state_of l m.old) (node_in (member_fam w), n) (member_fam w) }

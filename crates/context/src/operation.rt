@@ -11,6 +11,7 @@ use super::value::end_use;
 use super::{Family, Kind, Layout, bear, finish, first_of, flags_at};
 
 // The operation at the place `p` gets the flags `v`; at a free place they are 0.
+#[inline(always)]
 pub fn put_flags(m: &mut [u32], l: Layout, p: usize, v: u32)
     requires well { Well l m.old }
     requires p_lt_ops { p < l.ops }
@@ -54,6 +55,7 @@ pub fn end_operation(m: &mut [u32], l: Layout, o: usize)
 }
 
 // All uses of the list `s` of the slots end: how many.
+#[inline(always)]
 pub fn drop_slots(m: &mut [u32], l: Layout, s: usize) -> usize
     requires sound_store { SoundStore l m.old }
     requires s_bound { s < nc_of l slots }

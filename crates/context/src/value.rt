@@ -10,6 +10,7 @@ use super::lists::{enter_at, enter_back, leave};
 use super::{Family, Kind, Layout, bear, finish, number_of, types_at};
 
 // The value at the place `p` gets the type `v`; at a free place it is 0.
+#[inline(always)]
 pub fn put_type(m: &mut [u32], l: Layout, p: usize, v: u32)
     requires well { Well l m.old }
     requires p_lt_values { p < l.values }
@@ -67,6 +68,7 @@ pub fn birth_use(m: &mut [u32], l: Layout, s: usize, i: usize, d: usize) -> usiz
 }
 
 // The use at the place `u` moves to the list `k` of the use sets.
+#[inline(always)]
 pub fn move_use(m: &mut [u32], l: Layout, u: usize, k: usize)
     requires sound_store { SoundStore l m.old }
     requires k_bound { k < nc_of l use_sets }

@@ -209,6 +209,7 @@ impl<'a> View<'a> {
     }
 
     // Whether a user of the block at the place `b` is in no block.
+    #[inline(always)]
     pub fn stray_user(&self, b: usize) -> bool
         requires { Live (state_of self.now.layout self.now.words.now) (blk, b) }
         ensures { result ≡ place_stray_user (state_of self.now.layout self.now.words.now) (blk, b) }

@@ -29,6 +29,7 @@ const FIRST_LISTED: usize = 2;
 const BLOCK_PLACES: usize = 1024;
 
 // The list of operands or successors of the operation with this number.
+#[inline(always)]
 pub fn slot_of(v: &View, sl: Slot, number: u32) -> Result<usize, Refusal>
     ensures { SlotFound v.now.layout v.now.words.now (slot_of sl) number result }
 {
@@ -37,6 +38,7 @@ pub fn slot_of(v: &View, sl: Slot, number: u32) -> Result<usize, Refusal>
 }
 
 // The set of uses of the value or the block with this number.
+#[inline(always)]
 pub fn def_of(v: &View, sl: Slot, number: u32) -> Result<usize, Refusal>
     ensures { DefFound v.now.layout v.now.words.now (slot_of sl) number result }
 {
@@ -132,6 +134,7 @@ pub fn pop_use(m: &mut [u32], l: Layout, sl: Slot, number: u32) -> Answer
 }
 
 // The place of the use with this number, if it stands in the set `d`.
+#[inline(always)]
 fn held_in(v: &View, d: usize, number: u32) -> Option<usize>
     ensures { HeldIn v.now.layout d number v.now.words.now result }
 {
@@ -187,6 +190,7 @@ pub fn replace_use(m: &mut [u32], l: Layout, sl: Slot, number: u32, index: u32, 
 }
 
 // The use with this number moves from the set `d` to the set `e`, if it stands in `d`.
+#[inline(always)]
 pub fn place_one(m: &mut [u32], l: Layout, d: usize, e: usize, number: u32)
     requires sound_store { SoundStore l m.old }
     requires between { Between l m.old operand d e }
@@ -202,6 +206,7 @@ pub fn place_one(m: &mut [u32], l: Layout, d: usize, e: usize, number: u32)
 }
 
 // The listed uses move from the set `d` to the set `e`.
+#[inline(always)]
 pub fn place_listed(m: &mut [u32], l: Layout, d: usize, e: usize, rec: &[u8])
     requires sound_store { SoundStore l m.old }
     requires between { Between l m.old operand d e }
@@ -228,6 +233,7 @@ pub fn replace_some(m: &mut [u32], l: Layout, rec: &[u8]) -> Answer
 }
 
 // The block with this number, if one lives, is marked.
+#[inline(always)]
 fn mark_one(v: &View, number: u32, marks: &mut [bool; BLOCK_PLACES])
     ensures { MarkedOne v.now.layout number v.now.words.now marks.old marks.new }
 {
@@ -237,6 +243,7 @@ fn mark_one(v: &View, number: u32, marks: &mut [bool; BLOCK_PLACES])
 }
 
 // The listed blocks are marked.
+#[inline(always)]
 fn mark_listed(v: &View, rec: &[u8], marks: &mut [bool; BLOCK_PLACES])
     requires { marks.old ≡ replicate BLOCK_PLACES false }
     ensures { Marks v.now.layout (drop 2 (fields_of rec.now)) v.now.words.now marks.new }
@@ -247,6 +254,7 @@ fn mark_listed(v: &View, rec: &[u8], marks: &mut [bool; BLOCK_PLACES])
 }
 
 // Whether the use stands at an operation of a marked block.
+#[inline(always)]
 fn is_chosen(v: &View, u: usize, marks: &[bool; BLOCK_PLACES]) -> bool
     requires { Live (state_of v.now.layout v.now.words.now) (usg, u) }
     ensures { Chosen v.now.layout u marks.now v.now.words.now result }
@@ -255,6 +263,7 @@ fn is_chosen(v: &View, u: usize, marks: &[bool; BLOCK_PLACES]) -> bool
 }
 
 // The use moves to the set `e`, if it stands at an operation of a marked block.
+#[inline(always)]
 fn retarget_one(m: &mut [u32], l: Layout, e: usize, u: usize, marks: &[bool; BLOCK_PLACES])
     requires sound_store { SoundStore l m.old }
     requires e_bound { e < nc_of l use_sets }

@@ -60,6 +60,7 @@ impl From<Fault> for Answer {
 }
 
 // The operation's own uses end, and the tally rises by it and by them.
+#[inline(always)]
 fn drop_own(m: &mut [u32], l: Layout, o: usize, t: &mut Tally)
     requires { CanOwn l o t.old m.old }
     ensures { OwnTallied l o t.old m.old m.new t.new }
@@ -98,6 +99,7 @@ pub fn drop_operation(m: &mut [u32], l: Layout, o: usize, left: usize, t: &mut T
 
 // All uses in the region at the place `r` end.
 #[cycle(drop_block_drop_operation_drop_region)]
+#[inline(always)]
 pub fn drop_region(m: &mut [u32], l: Layout, r: usize, left: usize, t: &mut Tally) -> usize
     requires { CanDrop l (reg, r) (walked left t.old) m.old }
     ensures { Dropped l (reg, r) (walked left t.old) m.old m.new (walked result t.new) }
@@ -121,6 +123,7 @@ pub fn drop_region(m: &mut [u32], l: Layout, r: usize, left: usize, t: &mut Tall
 
 // All uses in the block at the place `b` end.
 #[cycle(drop_block_drop_operation_drop_region)]
+#[inline(always)]
 pub fn drop_block(m: &mut [u32], l: Layout, b: usize, left: usize, t: &mut Tally) -> usize
     requires { CanDrop l (blk, b) (walked left t.old) m.old }
     ensures { Dropped l (blk, b) (walked left t.old) m.old m.new (walked result t.new) }
@@ -185,6 +188,7 @@ pub fn drop_uses(m: &mut [u32], l: Layout, kind: Nested, number: u32) -> Answer
 }
 
 // Whether the operation at the place `o` is a terminator.
+#[inline(always)]
 fn is_terminator(v: &View, o: usize) -> bool
     requires { Live (state_of v.now.layout v.now.words.now) (op, o) }
     ensures { result ≡ terminates (state_of v.now.layout v.now.words.now) (op, o) }
@@ -193,6 +197,7 @@ fn is_terminator(v: &View, o: usize) -> bool
 }
 
 // Whether its blocks may lack a terminator.
+#[inline(always)]
 fn may_lack(v: &View, o: usize) -> bool
     requires { Live (state_of v.now.layout v.now.words.now) (op, o) }
     ensures { result ≡ lackable (state_of v.now.layout v.now.words.now) (op, o) }
@@ -202,6 +207,7 @@ fn may_lack(v: &View, o: usize) -> bool
 
 // Kept (point 1): `match` in this and two functions below, since a closure for `is_some_and` that holds a View gets no `ensures` by itself.
 // Whether the block ends in a terminator.
+#[inline(always)]
 fn ends_well(v: &View, b: usize) -> bool
     requires { Live (state_of v.now.layout v.now.words.now) (blk, b) }
     ensures { result ≡ place_ends_well (state_of v.now.layout v.now.words.now) (blk, b) }
@@ -213,6 +219,7 @@ fn ends_well(v: &View, b: usize) -> bool
 }
 
 // Whether a successor of the operation is the block.
+#[inline(always)]
 fn names_block(v: &View, b: usize, o: usize) -> bool
     requires { Live (state_of v.now.layout v.now.words.now) (blk, b) × Live (state_of v.now.layout v.now.words.now) (op, o) }
     ensures { result ≡ place_names_block (state_of v.now.layout v.now.words.now) (blk, b) (op, o) }
@@ -226,6 +233,7 @@ fn names_block(v: &View, b: usize, o: usize) -> bool
 }
 
 // Whether the block at the place `p` ends in a terminator that names the block at `b`.
+#[inline(always)]
 fn leads_to(v: &View, b: usize, p: usize) -> bool
     requires { Live (state_of v.now.layout v.now.words.now) (blk, b) × Live (state_of v.now.layout v.now.words.now) (blk, p) }
     ensures { result ≡ place_leads_to (state_of v.now.layout v.now.words.now) (blk, b) (blk, p) }
@@ -237,6 +245,7 @@ fn leads_to(v: &View, b: usize, p: usize) -> bool
 }
 
 // Whether the block of the use's user leads to the block at the place `b`.
+#[inline(always)]
 fn user_leads(v: &View, b: usize, u: usize) -> bool
     requires { Live (state_of v.now.layout v.now.words.now) (blk, b) × Live (state_of v.now.layout v.now.words.now) (usg, u) }
     ensures { result ≡ user_leads (state_of v.now.layout v.now.words.now) (blk, b) (usg, u) }
@@ -248,6 +257,7 @@ fn user_leads(v: &View, b: usize, u: usize) -> bool
 }
 
 // Whether a predecessor of the block does not lead to it.
+#[inline(always)]
 fn lost_pred(v: &View, b: usize) -> bool
     requires { Live (state_of v.now.layout v.now.words.now) (blk, b) }
     ensures { result ≡ place_lost_pred (state_of v.now.layout v.now.words.now) (blk, b) }
@@ -260,6 +270,7 @@ fn lost_pred(v: &View, b: usize) -> bool
 }
 
 // Whether the block at the place `b` of the region at `r` ends as it has to.
+#[inline(always)]
 fn ended(v: &View, b: usize, r: usize) -> bool
     requires { Live (state_of v.now.layout v.now.words.now) (blk, b) × Live (state_of v.now.layout v.now.words.now) (reg, r) }
     ensures { result ≡ (some_and (up (state_of v.now.layout v.now.words.now) (reg, r)) (lackable (state_of v.now.layout v.now.words.now)) || place_ends_well (state_of v.now.layout v.now.words.now) (blk, b)) }
@@ -269,6 +280,7 @@ fn ended(v: &View, b: usize, r: usize) -> bool
 }
 
 // The tests of a block by itself.
+#[inline(always)]
 fn judge_block(v: &View, b: usize) -> Result<(), Fault>
     requires { Live (state_of v.now.layout v.now.words.now) (blk, b) }
     ensures { BlockAlone v.now.layout b v.now.words.now result }
@@ -288,6 +300,7 @@ fn judge_block(v: &View, b: usize) -> Result<(), Fault>
 }
 
 // Whether the operation may stand where it does: no terminator has a next operation.
+#[inline(always)]
 fn judge_end(v: &View, o: usize) -> Result<(), Fault>
     requires { Live (state_of v.now.layout v.now.words.now) (op, o) }
     ensures { reply_of result ≡ place_too_early (state_of v.now.layout v.now.words.now) (op, o) }
@@ -314,6 +327,7 @@ pub fn verify_operation(v: &View, o: usize) -> Result<(), Fault>
 
 // The verdict on the region at the place `r`: its blocks in order.
 #[cycle(verify_block_verify_operation_verify_region)]
+#[inline(always)]
 pub fn verify_region(v: &View, r: usize) -> Result<(), Fault>
     requires { Live (state_of v.now.layout v.now.words.now) (reg, r) }
     ensures { RegionJudged v.now.layout r v.now.words.now result }
@@ -338,6 +352,7 @@ pub fn verify_block(v: &View, b: usize) -> Result<(), Fault>
 }
 
 // The answer to what was judged.
+#[inline(always)]
 fn answer_of(judged: Result<(), Fault>) -> Answer
     ensures { numbers_of result ≡ reply_of judged }
 {
@@ -360,6 +375,7 @@ pub fn verdict(v: &View, kind: Nested, number: u32) -> Answer
 }
 
 // A depth that reaches all: as many steps as things live.
+#[inline(always)]
 fn depth(v: &View) -> usize
     ensures { DepthIs v.now.layout v.now.words.now result }
 {
@@ -372,6 +388,7 @@ fn depth(v: &View) -> usize
 }
 
 // The thing at this place among those that lie directly in `x`.
+#[inline(always)]
 fn inner(x: Thing, place: usize) -> Thing
     ensures { thing_at result ≡ (nested_kind (inner_kind x.kind), place) }
 {
@@ -384,6 +401,7 @@ fn inner(x: Thing, place: usize) -> Thing
 }
 
 // The thing is marked or not, if it is an operation.
+#[inline(always)]
 fn mark_own(s: &mut [u32], x: Thing, marked: bool)
     requires { x.kind ≡ Operation → x.place < length s.old }
     ensures { Given (alone (thing_at x)) (from_bool marked) s.old s.new }
@@ -409,6 +427,7 @@ fn mark_within(v: &View, s: &mut [u32], x: Thing, n: usize, marked: bool)
 
 // Kept (point 5): the view and the marks stay two parameters, since the marks are scratch, lent beside the store.
 // Whether the use stands at an operation without a mark.
+#[inline(always)]
 fn is_stray(v: &View, s: &[u32], u: usize) -> bool
     requires long { v.now.layout.ops ≤ length s.now }
     requires live { Live (state_of v.now.layout v.now.words.now) (usg, u) }
@@ -419,6 +438,7 @@ fn is_stray(v: &View, s: &[u32], u: usize) -> bool
 }
 
 // Whether a use of the set `d` stands at an operation without a mark.
+#[inline(always)]
 fn set_strays(v: &View, s: &[u32], d: usize) -> bool
     requires long { v.now.layout.ops ≤ length s.now }
     requires d_bound { d < nc_of v.now.layout use_sets }
@@ -428,6 +448,7 @@ fn set_strays(v: &View, s: &[u32], d: usize) -> bool
 }
 
 // Whether a use of a value of the list `c` does.
+#[inline(always)]
 fn values_stray(v: &View, s: &[u32], c: usize) -> bool
     requires long { v.now.layout.ops ≤ length s.now }
     requires c_bound { c < nc_of v.now.layout vals }
@@ -437,6 +458,7 @@ fn values_stray(v: &View, s: &[u32], c: usize) -> bool
 }
 
 // Whether a use of a definition of the thing does: of a result, of an argument, of the block itself.
+#[inline(always)]
 fn own_strays(v: &View, s: &[u32], x: Thing) -> bool
     requires { Testable v.now.layout x v.now.words.now s.now }
     ensures { result ≡ stray_thing (state_of v.now.layout v.now.words.now) (marks_in s.now) (thing_at x) }
@@ -499,6 +521,7 @@ fn test_erase(v: &View, s: &mut [u32], x: Thing, n: usize) -> Result<(), Refusal
 }
 
 // The values of the list `c` end, the first one first.
+#[inline(always)]
 fn end_values(m: &mut [u32], l: Layout, c: usize)
     requires { CanEndValues l c m.old }
     ensures { EndedValues l c m.old m.new }
@@ -509,6 +532,7 @@ fn end_values(m: &mut [u32], l: Layout, c: usize)
 }
 
 // The results of an operation and the arguments of a block end; a region has none.
+#[inline(always)]
 fn end_own(m: &mut [u32], l: Layout, x: Thing)
     requires { CanErase l (thing_at x) m.old }
     ensures { OwnEnded l (thing_at x) m.old m.new }
@@ -521,6 +545,7 @@ fn end_own(m: &mut [u32], l: Layout, x: Thing)
 }
 
 // The thing itself ends.
+#[inline(always)]
 fn end_thing(m: &mut [u32], l: Layout, x: Thing)
     requires sound_store { SoundStore l m.old }
     requires can_end { CanEnd (state_of l m.old) (thing_at x) }
@@ -546,6 +571,7 @@ pub fn erase_inside(m: &mut [u32], l: Layout, x: Thing)
 }
 
 // By fewer than how many steps a use from outside is one of the thing's own (13): of an operation, of a block or its operations.
+#[inline(always)]
 fn own_reach(k: Nested) -> usize
     ensures { result ≡ own_reach k }
 {

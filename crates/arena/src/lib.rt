@@ -28,7 +28,7 @@ pub fn size(n: usize) -> usize
     requires { n ≤ 16384 }
     ensures { result ≡ cells n + words n }
 {
-    front_len(n) + n.div_ceil(64) * 2
+    front_len(n) + (n + 63) / 64 * 2
 }
 
 // The place of the live thing with this number; nothing where it has ended or was never born.

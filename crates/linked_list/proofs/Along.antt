@@ -1,17 +1,17 @@
 -- What the iterator over a list has still to give. Assumes nothing.
 use mathlib.Core.Path.{◌≡◌, refl, sym, ap, ◌∙◌}
 use mathlib.Core.List.{List, [], ◌∷◌}
-use Prim.Native.Nat.{ℕ, zero, suc, ◌+◌, ◌<◌, ◌≤◌, zero-le}
+use Prim.Native.Nat.{ℕ, zero, suc, ◌+◌, ◌*◌, ◌<◌, ◌≤◌, zero-le}
 use native.Mathlib.Omega.{arith}
 use native.Mathlib.Numerals.{add-one}
-use lib.ListN.{length, drop}
+use lib.ListN.{length, drop, get_or}
 use Rattle.std.specs.Prelude.{Option, Some, None, slice_get}
 use Rattle.std.proofs.lemmas.Option.{slice_get_within}
-use Rattle.seqs.specs.Cells.{code}
+use Rattle.seqs.specs.Cells.{code, decoded}
 use Rattle.linked_list.specs.Links.{at, walk, row, lists, Linked, OnRow, rest_from, next_in, row_of}
 use Rattle.linked_list.proofs.View.{row_short, walk_drop, drop_at}
 use Rattle.seqs.proofs.Cells.{stored}
-use Rattle.linked_list.proofs.Getters.{decoded_at, at_some, node_lt, next_is}
+use Rattle.linked_list.proofs.Getters.{cells, decoded_at, at_some, node_lt, next_is}
 
 module _ {nc nn : ℕ} {s : List ℕ} where
   -- the nodes from the index i on
@@ -43,6 +43,10 @@ module _ {nc nn : ℕ} {s : List ℕ} where
 
       pub on_lt : n < nn
       on_lt = node_lt O.linked O.cont< O.index there
+
+      -- what is stored after it
+      pub link : {i : ℕ} → i ≡ 2 * nc + n → decoded (get_or s i 0) ≡ next_in n (row_of n (lists nc nn s))
+      link q = ap (λ i. decoded (get_or s i 0)) q ∙ (cells O.linked n on_lt).next
 
       module _ {j : Option ℕ} (N : j ≡ next_in n (row_of n (lists nc nn s))) where
         after : j ≡ slice_get l (O.index + 1)

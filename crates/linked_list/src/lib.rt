@@ -30,18 +30,21 @@ pub struct Lists {
 pub struct Nodes<'a> {
     lists: Lists,
     words: &'a [u32],
-    next: Option<usize>,
+
+    // As it is stored: a step then waits for one word alone.
+    next: u32,
 }
 
 impl<'a> Model for Nodes<'a> {
     ghost use Rattle.std.specs.Prelude.{ℕ, List};
     ghost use Rattle.linked_list.specs.Links.{rest_from, OnRow};
+    ghost use Rattle.seqs.specs.Cells.{decoded};
 
     ghost Value = { List ℕ };
 
-    ghost view = { λ it. rest_from it.lists.nc it.lists.nn it.words.now it.next };
+    ghost view = { λ it. rest_from it.lists.nc it.lists.nn it.words.now (decoded it.next) };
 
-    ghost invariant = { λ it. OnRow it.lists.nc it.lists.nn it.words.now it.next };
+    ghost invariant = { λ it. OnRow it.lists.nc it.lists.nn it.words.now (decoded it.next) };
 }
 
 impl<'a> Iterator for Nodes<'a> {
@@ -53,8 +56,8 @@ impl<'a> Iterator for Nodes<'a> {
 
     #[inline(always)]
     fn next(&mut self) -> Option<usize> {
-        let n = self.next?;
-        self.next = self.lists.get_next(self.words, n);
+        let n = decode(self.next)?;
+        self.next = self.words[self.lists.next_slot(n)];
         Some(n)
     }
 }
@@ -198,7 +201,7 @@ impl Lists {
         Nodes {
             lists: self,
             words: s,
-            next: self.get_head(s, c),
+            next: s[c],
         }
     }
 
@@ -360,32 +363,29 @@ impl Lists {
     }
 
     // Kept (point 3): these links are not yet known to be a list's, so that no iterator over them can say what comes, or that it ends.
-    // The length of c's list, if that is well formed and has at most b nodes.
+    // The length of c's list, if that is well formed and has at most b nodes. Links are compared as they are stored.
     fn check_row(self, s: &[u32], c: usize, b: usize) -> Option<usize>
         requires s_len { length s.now ≡ 2 * self.nc + 3 * self.nn }
         requires c_lt_nc { c < self.nc }
         requires b_le_nn { b ≤ self.nn }
         ensures { RowFound self.nc self.nn s.now c b result }
     {
-        let mut p = None;
-        let mut q = decode(s[c]);
+        let home = encode(Some(c));
+        let mut p = 0;
+        let mut q = s[c];
         let mut j = 0;
-        while let Some(x) = q {
+        while let Some(x) = decode(q) {
             if j >= b || x >= self.nn {
                 return None;
             }
-            if decode(s[self.home_slot(x)]) != Some(c) || decode(s[self.prev_slot(x)]) != p {
+            if s[self.home_slot(x)] != home || s[self.prev_slot(x)] != p {
                 return None;
             }
             p = q;
-            q = decode(s[self.next_slot(x)]);
+            q = s[self.next_slot(x)];
             j += 1;
         }
-        if decode(s[self.nc + c]) == p {
-            Some(j)
-        } else {
-            None
-        }
+        if s[self.nc + c] == p { Some(j) } else { None }
     }
 
     // The nodes of all the lists, if they are well formed and have at most nn nodes together.

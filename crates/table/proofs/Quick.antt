@@ -1,10 +1,9 @@
 -- As many stamps as the order has: then the order has every taken place. Assumes nothing.
-use Rattle.std.proofs.Common.{◌≡◌, refl, sym, ap, ◌∙◌, subst, List, [], ◌∷◌, ◌++◌, arith, add-one, ℕ, zero, suc, ◌+◌, ◌-◌, ◌<◌, ◌≤◌, not, eqb, length, take, get_or, length-append, take_all}
+use Rattle.std.proofs.Common.{◌≡◌, refl, sym, ap, ◌∙◌, subst, List, [], ◌∷◌, ◌++◌, arith, add-one, ℕ, zero, suc, ◌+◌, ◌-◌, ◌<◌, ◌≤◌, not, eqb, length, length-append}
+use mir.Val.{bool_byte}
+use Rattle.std.proofs.lemmas.Bool.{ne_eqb}
 use mathlib.Core.Logic.{by_cases}
 use native.Mathlib.Decide.{ℕ_discrete, dec_lt}
-use Rattle.std.specs.List.{count_by}
-use Rattle.std.proofs.lemmas.Bool.{ne_eqb}
-use Rattle.std.proofs.lemmas.List.Sums.{count_by_more_yes, count_by_more_no}
 use Rattle.seqs.specs.Seqs.{tick, count, In, sum}
 use Rattle.seqs.proofs.Base.{tick_yes, tick_no, count_append, in_head, in_tail}
 use Rattle.seqs.proofs.Sums.{length_count}
@@ -76,7 +75,7 @@ pub sign_pos : (s : ℕ) → 0 < s → sign s ≡ 1
 sign_pos zero h = absurd (omega arith)
 sign_pos (suc s) h = refl
 
-sign_le : (s : ℕ) → sign s ≤ 1
+pub sign_le : (s : ℕ) → sign s ≤ 1
 sign_le zero = omega arith
 sign_le (suc s) = omega arith
 
@@ -145,19 +144,15 @@ module _ (n : ℕ) (t : List ℕ) (O : Ordered n t) where
       once x i = let w : (x < n) × (0 < stamp n t x) = live_of x i in let r : (i : ℕ) × (i < T.count t) × (order t i ≡ x) = P.found x w.0 w.1 in
           omega (arith, front_once (T.count t) (omega arith) x, subst (λ (q : ℕ). In ℕ_discrete q l) r.2 (front_in t (T.count t) r.0 r.1))
 
--- the stamps that are not 0, counted
-module _ (n : ℕ) (t xs : List ℕ) (long : length xs ≡ n) (same : (i : ℕ) → i < n → get_or xs i 0 ≡ stamp n t i) where
-  abbrev counted : ℕ → ℕ
-  counted k = count_by (λ s. not (eqb s 0)) (take k xs)
+-- the stamps that are not 0, counted from the first on
+pub taken_none : (n : ℕ) (t : List ℕ) → 0 ≡ taken n t 0
+unfolding taken
+taken_none n t = refl
 
-  one_more : (k s : ℕ) → counted k ≡ taken n t k → k < n → get_or xs k 0 ≡ s → counted (k + 1) ≡ taken n t k + sign s
-  one_more k zero h q e = count_by_more_no (λ s. not (eqb s 0)) xs k 0 (omega arith) (ap (λ (s : ℕ). not (eqb s 0)) e) ∙ omega arith
-  one_more k (suc s) h q e = count_by_more_yes (λ s. not (eqb s 0)) xs k 0 (omega arith) (ap not (ne_eqb (get_or xs k 0) 0 (omega arith))) ∙ omega arith
+pub taken_more : (n : ℕ) (t : List ℕ) (k r g : ℕ) → k ≡ taken n t r → g ≡ sign (stamp n t r) → k + g ≡ taken n t (r + 1)
+unfolding taken
+taken_more n t k r g e f = rw (add-one r) (omega arith)
 
-  counted_is : (k : ℕ) → k ≤ n → counted k ≡ taken n t k
-  unfolding taken
-  counted_is zero h = refl
-  counted_is (suc k) h = rw (← add-one k) (one_more k (stamp n t k) (counted_is k (omega arith)) h (same k h))
-
-  pub taken_count : count_by (λ s. not (eqb s 0)) xs ≡ taken n t n
-  taken_count = ap (count_by (λ s. not (eqb s 0))) (sym (take_all n xs (omega arith))) ∙ counted_is n (omega arith)
+pub one_sign : (s : ℕ) → bool_byte (not (eqb s 0)) ≡ sign s
+one_sign zero = refl
+one_sign (suc s) = ap (λ b. bool_byte (not b)) (ne_eqb (suc s) 0 (omega arith))

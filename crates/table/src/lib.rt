@@ -153,9 +153,16 @@ fn check_places(t: &[u32], n: usize) -> bool
     requires { Shape n t.now × Ordered n t.now }
     ensures { Says result (Placed n t.now) }
 {
-    let next = t[0];
-    let stamps = &t[2 + n..];
-    stamps.iter().all(|s| *s <= next) && stamps.iter().filter(|s| **s != 0).count() == t[1] as usize
+    let next = t[0] as usize;
+    let mut taken: usize = 0;
+    for p in 0..n {
+        let s = stamp_at(t, n, p);
+        if next < s {
+            return false;
+        }
+        taken += usize::from(s != 0);
+    }
+    taken == t[1] as usize
 }
 
 // Whether the order is 0 past its last.

@@ -109,7 +109,12 @@ impl<'a> View<'a> {
         requires callable { AtLive self.now.layout (fam_of f) self.now.words.now (F.pre test) }
         ensures { AnyOf self.now.layout (fam_of f) k self.now.words.now (F.post test) result }
     {
-        self.nodes(f, k).any(test)
+        for p in self.nodes(f, k) {
+            if test(p) {
+                return true;
+            }
+        }
+        false
     }
 
     // Whether a place and a number are left for a birth of the kind `k`.

@@ -1,17 +1,18 @@
-use Rattle.std.proofs.Common.{rules, true, false, refl}
-use Rattle.std.proofs.lemmas.Iterator.{cases_from_any}
-use Rattle.std.proofs.lemmas.Iterator.Adapters.{serves_from_places}
-use Rattle.std.proofs.lemmas.Iterator.Consumers.{YieldsList-from_first}
-use Rattle.context.proofs.Calling.{called_live, any_called}
+use Rattle.context.proofs.Calling.{calling, called, passed, failed, over}
 use Rattle.context.proofs.Viewed.{sound_of}
 use Rattle.context.proofs.view.View.any_of.Goals as goal
 
-pub any-requires-clause-callable : goal.any-requires-clause-callable
-any-requires-clause-callable g c =
-    serves_from_places (YieldsList-from_first (λ x. x) (λ rest. rest) _ refl) (λ x q r. g.met.F.Fn.1.step_stays _ _ _ _ (record { met = r.met }))
-    (λ x k h e. c.requires.callable x (called_live (sound_of c.args.self.now.sound) c.nodes.ensures k x h e))
+pub loop-p-init : goal.loop-p-init
+loop-p-init g c = rw c.into_iter-p-iterator.ensures.into_iter_gives (calling c.nodes-p-items.ensures)
+
+pub test-requires : goal.test-requires
+test-requires g c = c.requires.callable c.in-Some.p (called (sound_of c.args.self.now.sound) (rw c.in-Some.ensures.steps at c.loop-p.invariant))
+
+pub returns-then-test : goal.returns-then-test
+returns-then-test g c = passed (sound_of c.args.self.now.sound) (rw c.in-Some.ensures.steps at c.loop-p.invariant) c.if-test.ensures
+
+pub loop-p-preserved : goal.loop-p-preserved
+loop-p-preserved g c = failed (sound_of c.args.self.now.sound) (rw c.in-Some.ensures.steps at c.loop-p.invariant) c.if-test.ensures
 
 pub returns : goal.returns
-returns g c =
-    any_called (sound_of c.args.self.now.sound) (λ p b. goal.F-post g c.args.test p b) c.any.result c.nodes.ensures
-    (cases_from_any _ _ c.any.result (λ p. goal.F-post g c.args.test p true) (λ p. goal.F-post g c.args.test p false) c.any.ensures.ran (YieldsList-from_first (λ x. x) (λ rest. rest) _ refl) (λ x q r. search rules) (λ x q r. search rules))
+returns g c = over (rw c.in-None.ensures.steps.0 at c.loop-p.invariant)

@@ -3,6 +3,7 @@
 
 ghost use Rattle.std.specs.Prelude.{◌≡◌, ◌<◌};
 ghost use Rattle.edit.specs.Kinds.{slot_of};
+ghost use Rattle.edit.specs.Record.{of_value, of_block};
 ghost use Rattle.places.specs.Store.{Live, usg, use_sets};
 ghost use Rattle.places.specs.Hist.{def_by};
 ghost use Rattle.places.specs.Roles.{def_role};
@@ -100,4 +101,26 @@ pub fn front_uses<'a>(
 {
     let k = uses_of(store, definition, out)?;
     Ok(&mut out[..k])
+}
+
+// The uses of the value with this number, handed back likewise.
+pub fn value_uses<'a>(
+    store: &[u32],
+    number: u32,
+    out: &'a mut [u32],
+) -> Result<&'a mut [u32], Refusal>
+    ensures { Fronted store.now (of_value number) out.old result }
+{
+    front_uses(store, Definition::Value(number), out)
+}
+
+// The uses of the block with this number: the predecessors' use numbers.
+pub fn block_uses<'a>(
+    store: &[u32],
+    number: u32,
+    out: &'a mut [u32],
+) -> Result<&'a mut [u32], Refusal>
+    ensures { Fronted store.now (of_block number) out.old result }
+{
+    front_uses(store, Definition::Block(number), out)
 }

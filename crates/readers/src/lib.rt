@@ -46,8 +46,10 @@ fn fill_uses(v: &View, k: usize, out: &mut [u32]) -> usize
     ensures { Written (uses_among (state_of v.now.layout v.now.words.now) (definition_at v.now.layout v.now.words.now k) ((state_of v.now.layout v.now.words.now).tab usg).order) out.old 0 out.new result }
 {
     let mut pen = Pen { out, at: 0 };
-    for i in 0..v.live_count(Kind::Use) {
-        if let Some(x) = listing::nth_use(v, k, i) {
+    // A copy, which nothing that is written can change: where the parts stand is worked out once.
+    let view = *v;
+    for i in 0..view.live_count(Kind::Use) {
+        if let Some(x) = listing::nth_use(&view, k, i) {
             pen.put(x);
         }
     }

@@ -193,9 +193,14 @@ fn damaged(rt: &impl Print) -> io::Result<()> {
     birth(rt, &mut m, 3)
 }
 
-fn main(rt: HostRuntime) -> io::Result<()> {
+fn run(rt: HostRuntime) -> io::Result<()> {
     one_place(&rt)?;
     all_places(&rt)?;
     last_number(&rt)?;
     damaged(&rt)
+}
+
+// Output that cannot be written is no failure: the program ends silently, with status 0.
+fn main(rt: HostRuntime) {
+    let _ = run(rt);
 }

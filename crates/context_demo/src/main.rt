@@ -300,7 +300,7 @@ fn change(rt: &impl Print, m: &mut [u32], l: Layout) -> io::Result<()>
     told(rt, "own result as operand", d)
 }
 
-fn main(rt: HostRuntime) -> io::Result<()> {
+fn run(rt: HostRuntime) -> io::Result<()> {
     let mut store = [0u32; 89];
     let l = Layout {
         ops: 1,
@@ -318,4 +318,9 @@ fn main(rt: HostRuntime) -> io::Result<()> {
     print_words(&rt, &store, l)?;
     print_listing(&rt, &store, l)?;
     print_uses(&rt, &store)
+}
+
+// Output that cannot be written is no failure: the program ends silently, with status 0.
+fn main(rt: HostRuntime) {
+    let _ = run(rt);
 }

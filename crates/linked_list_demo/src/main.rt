@@ -241,7 +241,7 @@ fn play(rt: &impl Print, lists: Lists, s: &mut [u32], steps: &[u8]) -> io::Resul
     Ok(())
 }
 
-fn main(rt: HostRuntime) -> io::Result<()> {
+fn run(rt: HostRuntime) -> io::Result<()> {
     let mut one = [7u32; 8];
     play(
         &rt,
@@ -256,4 +256,9 @@ fn main(rt: HostRuntime) -> io::Result<()> {
         &mut two,
         b"B000B001F002I013I094A005N000U002U005U004N000B104P005M010M010M100P102U005T005F003T000T096T156T212N000T090T150T210T041U000T043U003",
     )
+}
+
+// Output that cannot be written is no failure: the program ends silently, with status 0.
+fn main(rt: HostRuntime) {
+    let _ = run(rt);
 }

@@ -28,6 +28,7 @@ pub struct Pen<'a, T> {
 
 impl<'a, T: Copy> Pen<'a, T> {
     // One element.
+    #[inline(always)]
     pub fn put(&mut self, x: T)
         ensures { Wrote (x ∷ []) self.old self.new }
     {
@@ -40,12 +41,19 @@ impl<'a, T: Copy> Pen<'a, T> {
 
 impl<'a> Pen<'a, u8> {
     // A text.
+    #[inline(always)]
     pub fn text(&mut self, t: &[u8])
         ensures { Wrote t.now self.old self.new }
     {
+        // A pen of its own, which no byte that is written can change: its place is read and written once.
+        let mut pen = Pen {
+            out: &mut *self.out,
+            at: self.at,
+        };
         for b in t {
-            self.put(*b);
+            pen.put(*b);
         }
+        self.at = pen.at;
     }
 
     // The last `k` decimal digits of `n`, or all where there are fewer.
@@ -56,9 +64,11 @@ impl<'a> Pen<'a, u8> {
         if k == 0 {
             return;
         }
-        if n >= 10 {
-            self.digits(n / 10, k - 1);
+        if n < 10 {
+            self.put(b'0' + n as u8);
+            return;
         }
+        self.digits(n / 10, k - 1);
         self.put(b'0' + (n % 10) as u8);
     }
 
@@ -115,6 +125,7 @@ fn put_home(v: &View, word: &[u8], holder: Nested, p: usize, pen: &mut Pen<u8>)
 }
 
 // The number of the `i`-th live use, where the set `k` of uses has it.
+#[inline(always)]
 pub fn nth_use(v: &View, k: usize, i: usize) -> Option<u32>
     requires k_bound { k < nc_of v.now.layout use_sets }
     requires live { Live (state_of v.now.layout v.now.words.now) (con v.now.layout use_sets k).1 }
@@ -137,8 +148,10 @@ fn put_uses(v: &View, word: &[u8], k: usize, pen: &mut Pen<u8>)
     ensures { Wrote (word.now ++ rules.nums (uses_among (state_of v.now.layout v.now.words.now) (definition_at v.now.layout v.now.words.now k) ((state_of v.now.layout v.now.words.now).tab usg).order)) pen.old pen.new }
 {
     pen.text(word);
-    for i in 0..v.live_count(Kind::Use) {
-        if let Some(x) = nth_use(v, k, i) {
+    // A copy, which nothing that is written can change: where the parts stand is worked out once.
+    let view = *v;
+    for i in 0..view.live_count(Kind::Use) {
+        if let Some(x) = nth_use(&view, k, i) {
             pen.number(x);
         }
     }

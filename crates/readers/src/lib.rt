@@ -3,6 +3,7 @@
 
 ghost use Rattle.std.specs.Prelude.{◌≡◌, ◌<◌};
 ghost use Rattle.edit.specs.Kinds.{slot_of};
+ghost use Rattle.edit.specs.Record.{of_value, of_block};
 ghost use Rattle.places.specs.Store.{Live, usg, use_sets};
 ghost use Rattle.places.specs.Hist.{def_by};
 ghost use Rattle.places.specs.Roles.{def_role};
@@ -45,8 +46,10 @@ fn fill_uses(v: &View, k: usize, out: &mut [u32]) -> usize
     ensures { Written (uses_among (state_of v.now.layout v.now.words.now) (definition_at v.now.layout v.now.words.now k) ((state_of v.now.layout v.now.words.now).tab usg).order) out.old 0 out.new result }
 {
     let mut pen = Pen { out, at: 0 };
-    for i in 0..v.live_count(Kind::Use) {
-        if let Some(x) = listing::nth_use(v, k, i) {
+    // A copy, which nothing that is written can change: where the parts stand is worked out once.
+    let view = *v;
+    for i in 0..view.live_count(Kind::Use) {
+        if let Some(x) = listing::nth_use(&view, k, i) {
             pen.put(x);
         }
     }
@@ -100,4 +103,26 @@ pub fn front_uses<'a>(
 {
     let k = uses_of(store, definition, out)?;
     Ok(&mut out[..k])
+}
+
+// The uses of the value with this number, handed back likewise.
+pub fn value_uses<'a>(
+    store: &[u32],
+    number: u32,
+    out: &'a mut [u32],
+) -> Result<&'a mut [u32], Refusal>
+    ensures { Fronted store.now (of_value number) out.old result }
+{
+    front_uses(store, Definition::Value(number), out)
+}
+
+// The uses of the block with this number: the predecessors' use numbers.
+pub fn block_uses<'a>(
+    store: &[u32],
+    number: u32,
+    out: &'a mut [u32],
+) -> Result<&'a mut [u32], Refusal>
+    ensures { Fronted store.now (of_block number) out.old result }
+{
+    front_uses(store, Definition::Block(number), out)
 }

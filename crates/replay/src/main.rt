@@ -54,7 +54,7 @@ fn replay_entry() -> Option<bool> {
     Some(compare(n).unwrap_or(false))
 }
 
-fn main(rt: HostRuntime) -> std::io::Result<()> {
+fn run(rt: HostRuntime) -> std::io::Result<()> {
     let mut scripts: u64 = 0;
     let mut differ: u64 = 0;
     for _i in 0..100000u64 {
@@ -65,4 +65,9 @@ fn main(rt: HostRuntime) -> std::io::Result<()> {
         differ += u64::from(!same);
     }
     println!(rt; "{scripts} scripts, {differ} differ")
+}
+
+// Output that cannot be written is no failure: the program ends silently, with status 0.
+fn main(rt: HostRuntime) {
+    let _ = run(rt);
 }

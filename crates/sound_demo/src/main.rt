@@ -256,7 +256,7 @@ fn judge(rt: &impl Print, m: &[u32]) -> io::Result<()> {
     println!(rt; "the store is {verdict}")
 }
 
-fn main(rt: HostRuntime) -> io::Result<()> {
+fn run(rt: HostRuntime) -> io::Result<()> {
     let l = Layout {
         ops: O,
         blocks: B,
@@ -274,4 +274,9 @@ fn main(rt: HostRuntime) -> io::Result<()> {
     families(&rt, &mut store)?;
     tags(&rt, &mut store)?;
     judge(&rt, &store)
+}
+
+// Output that cannot be written is no failure: the program ends silently, with status 0.
+fn main(rt: HostRuntime) {
+    let _ = run(rt);
 }

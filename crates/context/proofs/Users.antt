@@ -17,7 +17,7 @@ use Rattle.rules.specs.Table.{any, some_and, is_some}
 use Rattle.places.proofs.Steps.{some_inj, some_none, up_live}
 use Rattle.context.specs.declared.Layout.{Layout}
 use Rattle.context.specs.Memory.{con, ListIs, state_of, given, SoundStore, HomeIs}
-use Rattle.context.specs.Reading.{NumberIs, DefNumberIs, DefinitionIs, UserIs, block_by, BlockOf}
+use Rattle.context.specs.Reading.{NodesAre, NumberIs, DefNumberIs, DefinitionIs, UserIs, block_by, BlockOf}
 use Rattle.context.proofs.Cursor.{row}
 use Rattle.context.proofs.Numbers.{list_there, value_set, block_set}
 
@@ -111,6 +111,10 @@ astray {l} {m} {u} {r} B = go r ∙ sym (ap (λ (o : math.Option Thing). not (so
     go None = refl
     go (Some b) = refl
 
-pub stray_is : {l : Layout} (m : List ℕ) {b k : ℕ} → ListIs l use_sets (block_uses, (blk, b)) k → any (stray? (state_of l m)) (row l use_sets k m) ≡ place_stray_user (state_of l m) (blk, b)
+pub stray_at : (l : Layout) (m : List ℕ) (b : ℕ) → any (stray? (state_of l m)) (row l use_sets (l.values + b) m) ≡ place_stray_user (state_of l m) (blk, b)
 unfolding place_stray_user
-stray_is {l} m L = ap (any (stray? (state_of l m))) (list_there L m)
+stray_at l m b = ap (λ (c : Con). any (stray? (state_of l m)) ((state_of l m).list c.1 c.0)) (con_block_uses l b)
+
+-- the set of the uses of a block, by its number
+pub block_nodes : {l : Layout} {m : List ℕ} {b k : ℕ} {q : List ℕ} → ListIs l use_sets (block_uses, (blk, b)) k → NodesAre l use_sets k m q → NodesAre l use_sets (l.values + b) m q
+block_nodes {l} {m} {b} L N = record { are = ap (λ (c : Con). (state_of l m).list c.1 c.0) (con_block_uses l b ∙ sym L.row) ∙ N.are }

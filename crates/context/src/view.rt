@@ -219,10 +219,11 @@ impl<'a> View<'a> {
         requires { Live (state_of self.now.layout self.now.words.now) (blk, b) }
         ensures { result ≡ place_stray_user (state_of self.now.layout self.now.words.now) (blk, b) }
     {
-        self.any_of(
-            Family::UseSets,
-            use_set_of(self.layout, Slot::Successor, b),
-            |u| self.block_of(u).is_none(),
-        )
+        for u in self.nodes(Family::UseSets, use_set_of(self.layout, Slot::Successor, b)) {
+            if self.block_of(u).is_none() {
+                return true;
+            }
+        }
+        false
     }
 }

@@ -2,10 +2,10 @@
 use mathlib.Core.Path.{◌≡◌, refl, sym, ap, ◌∙◌}
 use mathlib.Core.Bool.{Bool, true, false, not}
 use mathlib.Core.List.{List, [], ◌∷◌}
-use Prim.Native.Nat.{ℕ}
+use Prim.Native.Nat.{ℕ, ◌+◌}
 use Rattle.std.specs.Prelude.{Option, None, Some, nat_eq}
 use Rattle.std.specs.Option.{option_eq}
-use Rattle.places.specs.Store.{op, blk, reg, usg, successors, block_uses, regions, ops, blocks, Fam, slots, use_sets, regs, ops_in, blocks_in, Thing, State}
+use Rattle.places.specs.Store.{op, blk, reg, usg, successors, block_uses, regions, ops, blocks, Fam, slots, use_sets, regs, ops_in, blocks_in, Thing, State, Con}
 use Rattle.places.specs.Parts.{node_in, rows_of}
 use Rattle.places.specs.Verdict.{place_first_met, is_held_by, place_names_block, place_lost_pred, place_block_verdict, place_region_verdict}
 use Rattle.rules.specs.Table.{any}
@@ -20,6 +20,7 @@ use Rattle.walk.specs.Judge.{fault_reply, on_op, user_leads}
 use Rattle.context.proofs.Cursor.{row}
 use Rattle.context.proofs.Rest.{nodes, Rest, rest_all, rest_on}
 use Rattle.context.proofs.Numbers.{list_there}
+use Rattle.context.proofs.Users.{con_block_uses}
 use Rattle.walk.proofs.JudgeLaws.{met_hit, met_miss, met_over, held_by}
 
 -- a fault is not clean
@@ -72,9 +73,9 @@ names_is {l} K m b = ap (any (names? (state_of l m) b)) (list_there K m)
 abbrev pub lost? : State → ℕ → Thing → Bool
 lost? P b u = not (user_leads P (blk, b) u)
 
-pub lost_is : {l : Layout} {b d : ℕ} → ListIs l use_sets (block_uses, (blk, b)) d → (m : List ℕ) → any (lost? (state_of l m) b) (row l use_sets d m) ≡ place_lost_pred (state_of l m) (blk, b)
+pub lost_at : (l : Layout) (m : List ℕ) (b : ℕ) → any (lost? (state_of l m) b) (row l use_sets (l.values + b) m) ≡ place_lost_pred (state_of l m) (blk, b)
 unfolding place_lost_pred
-lost_is {l} {b} D m = ap (any (lost? (state_of l m) b)) (list_there D m)
+lost_at l m b = ap (λ (c : Con). any (lost? (state_of l m) b) ((state_of l m).list c.1 c.0)) (con_block_uses l b)
 
 -- the lists of the nest
 pub regions_row : (l : Layout) (m : List ℕ) (o : ℕ) → row l regs o m ≡ (state_of l m).list (op, o) regions

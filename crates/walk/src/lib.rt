@@ -262,11 +262,12 @@ fn lost_pred(v: &View, b: usize) -> bool
     requires { Live (state_of v.now.layout v.now.words.now) (blk, b) }
     ensures { result ≡ place_lost_pred (state_of v.now.layout v.now.words.now) (blk, b) }
 {
-    v.any_of(
-        Family::UseSets,
-        use_set_of(v.layout, Slot::Successor, b),
-        |u| !user_leads(v, b, u),
-    )
+    for u in v.nodes(Family::UseSets, use_set_of(v.layout, Slot::Successor, b)) {
+        if !user_leads(v, b, u) {
+            return true;
+        }
+    }
+    false
 }
 
 // Whether the block at the place `b` of the region at `r` ends as it has to.
@@ -444,7 +445,12 @@ fn set_strays(v: &View, s: &[u32], d: usize) -> bool
     requires d_bound { d < nc_of v.now.layout use_sets }
     ensures { result ≡ stray_set (state_of v.now.layout v.now.words.now) (marks_in s.now) (con v.now.layout use_sets d) }
 {
-    v.any_of(Family::UseSets, d, |u| is_stray(v, s, u))
+    for u in v.nodes(Family::UseSets, d) {
+        if is_stray(v, s, u) {
+            return true;
+        }
+    }
+    false
 }
 
 // Whether a use of a value of the list `c` does.
@@ -454,7 +460,12 @@ fn values_stray(v: &View, s: &[u32], c: usize) -> bool
     requires c_bound { c < nc_of v.now.layout vals }
     ensures { result ≡ any (stray_value (state_of v.now.layout v.now.words.now) (marks_in s.now)) (list_of v.now.layout v.now.words.now (con v.now.layout vals c)) }
 {
-    v.any_of(Family::Values, c, |p| set_strays(v, s, p))
+    for p in v.nodes(Family::Values, c) {
+        if set_strays(v, s, p) {
+            return true;
+        }
+    }
+    false
 }
 
 // Whether a use of a definition of the thing does: of a result, of an argument, of the block itself.

@@ -4,10 +4,6 @@ use mathlib.Core.Logic.{by_cases}
 use mathlib.Core.Bool.{Bool, true, false, cond}
 use mathlib.Core.List.{List, [], ◌∷◌, ◌++◌, append_assoc}
 use mathlib.Core.Option.{Option, some}
-use Rattle.std.proofs.Common.{rules}
-use Rattle.std.proofs.lemmas.Bool.{eq-eqb, eqb-true, true≢false}
-use Rattle.std.specs.Option.{option_eq}
-use lib.Dec.{eqb}
 use Rattle.std.specs.Prelude as Rust
 use Rattle.std.specs.Prelude.{Some, None}
 use native.Mathlib.Decide.{dec_lt}
@@ -127,13 +123,12 @@ module _ {l : Layout} {m : List ℕ} (S : SoundStore l m) (k : ℕ) (lc : Live (
     pub one_no : (h ≡ Some k → ⊥) → uses_among Q (definition_at l m k) (get_or (Q.tab usg).order i 0 ∷ []) ≡ []
     one_no n = ap (λ (v : ℕ). uses_among Q (definition_at l m k) (v ∷ [])) (sym at) ∙ among_no H n
 
--- what `==` tells of an option
-pub some_same : {k : ℕ} (h : Rust.Option ℕ) → option_eq eqb h (Some k) ≡ true → h ≡ Some k
-some_same None e = search (e, rules)
-some_same {k} (Some d) e = ap Some (eqb-true d k e)
-
-pub some_apart : {k : ℕ} (h : Rust.Option ℕ) → option_eq eqb h (Some k) ≡ false → h ≡ Some k → ⊥
-some_apart {k} h e z = absurd (true≢false (sym (ap (λ (o : Rust.Option ℕ). option_eq eqb o (Some k)) z ∙ eq-eqb k k refl) ∙ e))
+-- a use whose definition stands at another place
+pub some_apart : {d k : ℕ} {h : Rust.Option ℕ} → h ≡ Some d → (d ≡ k → ⊥) → h ≡ Some k → ⊥
+some_apart {d} {k} {h} e n z = n (some_is (sym e ∙ z))
+  where
+    some_is : Rust.Some d ≡ Rust.Some k → d ≡ k
+    some_is q = cc
 
 -- the uses among a list, one after another
 pub among_pieces : (P : State) (d : Definition) → Pieces (uses_among P d)

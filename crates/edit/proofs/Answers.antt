@@ -1,38 +1,38 @@
 -- An answer's three words among the others. Assumes nothing.
-use Rattle.std.proofs.Common.{◌≡◌, sym, ap, ◌∙◌, arith, ℕ, ◌+◌, ◌-◌, ◌*◌, ◌≤◌, ◌<◌, List, length, get_or, drop}
-use Rattle.std.proofs.lemmas.List.{get_or-take, get_or-drop, length-drop, length-take-le}
-use Rattle.std.proofs.lemmas.List.Edits.{get_or-between}
-use Rattle.std.proofs.lemmas.Slice.{take-put_mid_below, drop-put_mid, between-put_mid}
-use borrow.Rule.Slice.PartMut.{put_mid, same_len_mid}
+use mathlib.Core.Path.{◌≡◌, ◌∙◌}
+use mathlib.Core.List.{List}
+use Prim.Native.Nat.{ℕ, ◌+◌, ◌*◌, ◌≤◌}
+use native.Mathlib.Omega.{arith}
+use lib.ListN.{length, get_or, set, length-set}
+use lib.Seq.{get_or-set_same, get_or-set_other}
 use Rattle.edit.specs.Answer.{numbers, Put}
 
-module _ (m ws : List ℕ) (k : ℕ) (three : length ws ≡ 3) (room : 3 * k + 3 ≤ length m) where
-  abbrev at : ℕ
-  at = 3 * k
+module _ (m : List ℕ) (k n a b : ℕ) (room : 3 * k + 3 ≤ length m) where
+  m₁ : List ℕ
+  m₁ = set m (3 * k) n
 
-  abbrev n : ℕ
-  n = at + 3 - at
+  m₂ : List ℕ
+  m₂ = set m₁ (3 * k + 1) a
 
-  abbrev m' : List ℕ
-  m' = put_mid at n m ws
+  others : (i : ℕ) → (i ≡ 3 * k → ⊥) → (i ≡ 3 * k + 1 → ⊥) → (i ≡ 3 * k + 2 → ⊥) → get_or (set m₂ (3 * k + 2) b) i 0 ≡ get_or m i 0
+  unfolding m₁ m₂
+  others i d₀ d₁ d₂ = get_or-set_other m₂ (3 * k + 2) i b 0 d₂ ∙ get_or-set_other m₁ (3 * k + 1) i a 0 d₁ ∙ get_or-set_other m (3 * k) i n 0 d₀
 
-  word : (j : ℕ) → j < 3 → get_or m' (at + j) 0 ≡ get_or ws j 0
-  word j h = sym (get_or-between m' at (at + 3) j 0 (omega (arith, h))) ∙ ap (λ (l : List ℕ). get_or l j 0) (between-put_mid at n m ws (at + 3) (omega (arith, room)) (omega (arith, three)))
-
-  first : get_or m' at 0 ≡ get_or ws 0 0
-  first = ap (λ (i : ℕ). get_or m' i 0) (omega arith) ∙ word 0 (omega arith)
-
-  kept : (i : ℕ) → at + 3 ≤ i → i ≡ at + 3 + (i - (at + 3)) → get_or m' i 0 ≡ get_or m i 0
-  kept i h e =
-      let j : ℕ = i - (at + 3) in
-      let lists : drop (at + 3) m' ≡ drop (at + 3) m = drop-put_mid at n m ws (at + 3) (omega arith) (omega (arith, room)) (omega (arith, three)) in
-      ap (λ (x : ℕ). get_or m' x 0) e ∙ sym (get_or-drop (at + 3) m' j 0) ∙ ap (λ (l : List ℕ). get_or l j 0) lists ∙ get_or-drop (at + 3) m j 0 ∙ ap (λ (x : ℕ). get_or m x 0) (sym e)
-
-  pub put_three : Put m m' k (numbers (get_or ws 0 0) (get_or ws 1 0) (get_or ws 2 0))
+  pub put_three : Put m (set (set (set m (3 * k) n) (3 * k + 1) a) (3 * k + 2) b) k (numbers n a b)
+  unfolding m₁ m₂
   put_three =
+      let l₁ : length m₁ ≡ length m = length-set m (3 * k) n in
+      let l₂ : length m₂ ≡ length m₁ = length-set m₁ (3 * k + 1) a in
+      let first : get_or (set m₂ (3 * k + 2) b) (3 * k) 0 ≡ n =
+      get_or-set_other m₂ (3 * k + 2) (3 * k) b 0 (λ e. omega arith) ∙ get_or-set_other m₁ (3 * k + 1) (3 * k) a 0 (λ e. omega arith) ∙ get_or-set_same m (3 * k) n 0 (omega arith)
+      in
+      let second : get_or (set m₂ (3 * k + 2) b) (3 * k + 1) 0 ≡ a =
+      get_or-set_other m₂ (3 * k + 2) (3 * k + 1) b 0 (λ e. omega arith) ∙ get_or-set_same m₁ (3 * k + 1) a 0 (omega arith)
+      in
+      let third : get_or (set m₂ (3 * k + 2) b) (3 * k + 2) 0 ≡ b = get_or-set_same m₂ (3 * k + 2) b 0 (omega arith) in
       record {
-        long = same_len_mid at n m ws (omega (arith, three, room, length-drop at m, length-take-le n (drop at m)));
-        here = λ i. numbers (first i) (word 1 (omega arith) i) (word 2 (omega arith) i);
-        before = λ i h. sym (get_or-take at m' i 0 h) ∙ ap (λ (l : List ℕ). get_or l i 0) (take-put_mid_below at n m ws at (omega arith) (omega (arith, room))) ∙ get_or-take at m i 0 h;
-        after = λ i h. kept i h (omega (arith, h));
+        long = length-set m₂ (3 * k + 2) b ∙ l₂ ∙ l₁;
+        here = cc;
+        before = λ i h. others i (λ e. omega arith) (λ e. omega arith) (λ e. omega arith);
+        after = λ i h. others i (λ e. omega arith) (λ e. omega arith) (λ e. omega arith);
       }

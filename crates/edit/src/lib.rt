@@ -347,9 +347,12 @@ pub fn put_answer(out: &mut [u32], k: usize, answer: Answer)
     requires { 3 * k + 3 ≤ length out.old }
     ensures { Put out.old out.new k (numbers_of answer) }
 {
-    let words = match answer {
-        Ok((a, b)) => [0, a, b],
-        Err(refusal) => [u32::from(refusal), 0, 0],
+    let (refusal, a, b) = match answer {
+        Ok((a, b)) => (0, a, b),
+        Err(refusal) => (u32::from(refusal), 0, 0),
     };
-    out[3 * k..3 * k + 3].copy_from_slice(&words);
+    let at = 3 * k;
+    out[at] = refusal;
+    out[at + 1] = a;
+    out[at + 2] = b;
 }

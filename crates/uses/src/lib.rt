@@ -218,6 +218,7 @@ pub fn place_listed(m: &mut [u32], l: Layout, d: usize, e: usize, rec: &[u8])
 }
 
 // Kind 34: the listed uses of this value become uses of the other.
+#[inline(never)]
 pub fn replace_some(m: &mut [u32], l: Layout, rec: &[u8]) -> Answer
     requires { SoundStore l m.old }
     ensures { Performed l (edit_by ReplaceSome (fields_of rec.now)) m.old m.new result }
@@ -305,6 +306,7 @@ fn retarget_listed(m: &mut [u32], l: Layout, d: usize, e: usize, rec: &[u8])
 }
 
 // Kind 35: the uses of this block at operations of listed blocks become uses of the other.
+#[inline(never)]
 pub fn retarget_some(m: &mut [u32], l: Layout, rec: &[u8]) -> Answer
     requires { SoundStore l m.old }
     ensures { Performed l (edit_by RetargetSome (fields_of rec.now)) m.old m.new result }

@@ -1,16 +1,19 @@
 -- The laws of the thin functions on lists. Assumes nothing.
 use mathlib.Core.Path.{◌≡◌, refl, sym, ap, ◌∙◌}
+use mathlib.Core.Bool.{Bool}
 use mathlib.Core.List.{List, [], ◌∷◌, ◌++◌, map}
 use mathlib.Core.Option.{none}
-use Rattle.std.specs.Prelude.{Option, slice_get}
+use Rattle.std.specs.Prelude.{Option, Some, nat_eq, slice_get}
+use Rattle.std.specs.Option.{option_eq}
 use Prim.Native.Nat.{ℕ, zero, suc, ◌+◌, ◌-◌, ◌<◌}
 use native.Mathlib.Decide.{ℕ_discrete}
 use native.Mathlib.Omega.{arith}
 use lib.ListN.{length, get_or, take, drop}
 use Rattle.seqs.specs.Split.{split, splice}
 use Rattle.seqs.specs.Cells.{decoded}
-use Rattle.linked_list.specs.Links.{home, lists, Linked, Rowed, row, container, list_of, HomeIn}
+use Rattle.linked_list.specs.Links.{home, lists, Linked, Rowed, row, container, list_of, cont_of, HomeIn}
 use Rattle.linked_list.proofs.Getters.{home_cell}
+use Rattle.linked_list.proofs.Getters.{home_is as home_of_node}
 use Rattle.linked_list.proofs.View.{row_short}
 use Rattle.seqs.specs.Seqs.{without, seq_insert_at}
 use Rattle.seqs.proofs.Base.{insert_at_back}
@@ -20,6 +23,7 @@ use Rattle.context.specs.declared.Layout.{Layout}
 use Rattle.context.specs.declared.Span.{Span}
 use Rattle.context.specs.Layout.{nc_of, nn_of, sizes, family, fam_part, SpanOf}
 use Rattle.context.specs.Memory.{first_place, given, FirstIs, parts_of, LengthIs, decode, HomeIs, part, con, state_of, Well, Left, Entered, Stands}
+use Rattle.context.specs.Reading.{HasIs}
 use Rattle.context.proofs.Pieces.{Swapped, elsewhere, lent, swap, well_family, fam_part<}
 use Rattle.context.proofs.Families.{node<, list_at, own_is, stands, free, state_left, state_entered}
 
@@ -73,6 +77,14 @@ module _ {l : Layout} {m : List ℕ} {f : Fam} {r : Span} (W : Well l m) (T : Sp
       let g : h ≡ decoded (get_or given_part (home r.lists.nc r.lists.nn n) 0) = home_cell linked n h (omega (arith, T.nodes)) H in
       let e : h ≡ decoded (get_or (part l m (fam_part f)) (home (nc_of l f) (nn_of l f) n) 0) = rw (seen, T.containers, T.nodes) at g in
       record { own = own_is l m f n ∙ ap (con_of (con l f)) (sym (given_decoded _) ∙ ap given (sym e)) }
+
+  pub has_is : {k n : ℕ} {b : Bool} → n < nn_of l f → b ≡ option_eq nat_eq (cont_of n (lists r.lists.nc r.lists.nn given_part)) (Some k) → HasIs l f k n m b
+  has_is {k} {n} i e =
+      record {
+        home = cont_of n (lists r.lists.nc r.lists.nn given_part);
+        at = home_is i (home_of_node linked n (omega (arith, T.nodes)) refl);
+        is = e;
+      }
 
   pub length_is : {k n : ℕ} → n ≡ length (get_or (lists r.lists.nc r.lists.nn given_part) k []) → LengthIs l f k m n
   unfolding parts_of

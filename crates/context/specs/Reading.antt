@@ -1,6 +1,7 @@
 -- What the readers of lists and tables say of the store by places.
 -- Assumes nothing: these are definitions.
-use Rattle.std.specs.Prelude.{◌≡◌, Option, Some, None, Bool, List, [], ◌∷◌, ◌++◌, map, ℕ, ◌+◌, ◌≤◌, ◌<◌, length, get_or}
+use Rattle.std.specs.Prelude.{◌≡◌, Option, Some, None, Bool, List, [], ◌∷◌, ◌++◌, map, ℕ, ◌+◌, ◌≤◌, ◌<◌, length, get_or, nat_eq}
+use Rattle.std.specs.Option.{option_eq}
 use Rattle.std.proofs.Math.Option as math
 use Rattle.std.proofs.Math.Option.{none, some}
 use Rattle.seqs.specs.Seqs.{seq_last_of}
@@ -10,7 +11,7 @@ use Rattle.places.specs.View.{num}
 use Rattle.rules.specs.Table.{any}
 use Rattle.context.specs.declared.Layout.{Layout}
 use Rattle.context.specs.Layout.{cap_of, nn_of}
-use Rattle.context.specs.Memory.{part, con, state_of, first_place, Well}
+use Rattle.context.specs.Memory.{part, con, state_of, first_place, HomeIs, Well}
 
 -- the list c of the store
 abbrev pub list_of : Layout → List ℕ → Con → List Thing
@@ -25,6 +26,12 @@ last_place (x ∷ xs) = Some (seq_last_of x xs).1
 pub record NextIs (l : Layout) (f : Fam) (n : ℕ) (m : List ℕ) (r : Option ℕ) : Type 0 where
   pub none : (state_of l m).own (node_in f, n) f ≡ none → r ≡ None
   pub after : (c : Con) → (state_of l m).own (node_in f, n) f ≡ some c → (a b : List Thing) → list_of l m c ≡ a ++ (node_in f, n) ∷ b → r ≡ first_place b
+
+-- r is whether the list k of the family f has the node n: whether that is the list that the node stands in
+pub record HasIs (l : Layout) (f : Fam) (k n : ℕ) (m : List ℕ) (r : Bool) : Type 0 where
+  pub home : Option ℕ
+  pub at : HomeIs l f n m home
+  pub is : r ≡ option_eq nat_eq home (Some k)
 
 -- r is the places of the nodes of the list k of the family f, from first to last
 pub record NodesAre (l : Layout) (f : Fam) (k : ℕ) (m : List ℕ) (r : List ℕ) : Type 0 where

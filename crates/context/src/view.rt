@@ -5,7 +5,7 @@ ghost use Rattle.places.specs.Verdict.{place_stray_user};
 ghost use Rattle.context.specs.Kinds.{kind_of, fam_of};
 ghost use Rattle.context.specs.Layout.{nc_of, nn_of};
 ghost use Rattle.context.specs.Memory.{con, state_of, Finds, LooksUp, SoundStore, HomeIs, LengthIs, RoomIs, GrowIs, FirstIs};
-ghost use Rattle.context.specs.Reading.{list_of, NextIs, NodesAre, LastIs, NthIs, NumberIs, LiveIs, NextNumberIs, NthLiveIs, AtLive, AnyOf, TagIs, DefinitionIs, UserIs, BlockOf};
+ghost use Rattle.context.specs.Reading.{list_of, NextIs, HasIs, NodesAre, LastIs, NthIs, NumberIs, LiveIs, NextNumberIs, NthLiveIs, AtLive, AnyOf, TagIs, DefinitionIs, UserIs, BlockOf};
 
 use super::{Family, Kind, Layout, family_span, missing, use_set_of};
 use edit::{Refusal, Slot};
@@ -90,6 +90,17 @@ impl<'a> View<'a> {
         ensures { NthIs self.now.layout (fam_of f) k i self.now.words.now result }
     {
         super::nth_of(self.words, self.layout, f, k, i)
+    }
+
+    // Whether the list `k` of the family `f` has the node `n`.
+    #[inline(always)]
+    pub fn has(&self, f: Family, k: usize, n: usize) -> bool
+        requires k_bound { k < nc_of self.now.layout (fam_of f) }
+        requires n_bound { n < nn_of self.now.layout (fam_of f) }
+        ensures { HasIs self.now.layout (fam_of f) k n self.now.words.now result }
+    {
+        let s = family_span(self.layout, f);
+        s.lists.has(&self.words[s.at..s.end], k, n)
     }
 
     // The places of the nodes of the list `k` of the family `f`, from first to last.

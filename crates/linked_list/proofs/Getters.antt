@@ -12,6 +12,7 @@ use lib.ListN.{length, get_or}
 use lib.Dec.{eqb}
 use borrow.Author.Tests.{eq-eqb, ne_eqb}
 use Rattle.std.specs.Prelude.{Option, Some, None, slice_get, option_map, is_some}
+use Rattle.std.specs.Option.{option_eq}
 use Rattle.seqs.specs.Cells.{code, decoded}
 use Rattle.seqs.proofs.Cells.{some_of, zero_of, above_of, stored, stored_some, stored_none}
 use Rattle.linked_list.specs.Links.{at, place, preceding, home, Row, Free, Held, Links, has, row_of, cont_of, HomeIn, next_in, prev_in, last_in, choose, container}
@@ -136,6 +137,15 @@ home_cell {nc} {nn} {s} {ls} L n r n< H = go (L.node n n<)
     go (inr K) =
         let e : decoded (get_or s (home nc nn n) 0) ≡ Some K.cont = ap decoded ((L.row K.cont K.cont<).own K.index n K.there).1 in
         (H.one K.cont K.cont<).1 (((home_in L n n<).one K.cont K.cont<).0 e) ∙ sym e
+
+-- whether c's list has a node: its cell is compared with what is stored for c
+cell_same : (w c : ℕ) → eqb w (suc c) ≡ option_eq eqb (decoded w) (Some c)
+cell_same zero c = ne_eqb 0 (suc c) (λ q. omega (arith, q))
+cell_same (suc k) c =
+    by_cases (ℕ_discrete k c) (λ e. eq-eqb (suc k) (suc c) (ap suc e) ∙ sym (eq-eqb k c e)) (λ d. ne_eqb (suc k) (suc c) (λ q. d (suc_inj q)) ∙ sym (ne_eqb k c d))
+
+pub has_is : {nc nn : ℕ} {s : List ℕ} {ls : List (List ℕ)} → Links nc nn s ls → (n c : ℕ) → n < nn → eqb (get_or s (home nc nn n) 0) (suc c) ≡ option_eq eqb (cont_of n ls) (Some c)
+has_is {nc} {nn} {s} L n c n< = cell_same (get_or s (home nc nn n) 0) c ∙ ap (λ (r : Option ℕ). option_eq eqb r (Some c)) (cells L n n<).cont
 
 -- a node with no container has none stored, and a node with a container has one stored
 module _ {nc nn : ℕ} {s : List ℕ} {ls : List (List ℕ)} (L : Links nc nn s ls) (n : ℕ) (n< : n < nn) where

@@ -5,7 +5,8 @@
 // then the prevs, then the containers. A stored 0 means none, and k + 1 means k.
 #![tactic(auto)]
 
-ghost use Rattle.std.specs.Prelude.{◌≡◌, ◌≢◌, [], ◌∷◌, ◌++◌, ◌+◌, ◌*◌, ◌^◌, ◌<◌, ◌≤◌, get_or, length, is_some, slice_get};
+ghost use Rattle.std.specs.Prelude.{◌≡◌, ◌≢◌, [], ◌∷◌, ◌++◌, ◌+◌, ◌*◌, ◌^◌, ◌<◌, ◌≤◌, Some, get_or, length, is_some, nat_eq, slice_get};
+ghost use Rattle.std.specs.Option.{option_eq};
 ghost use Rattle.std.proofs.Math.Decide.{ℕ_discrete};
 ghost use Rattle.seqs.specs.Seqs.{Says, seq_insert_at, without};
 ghost use Rattle.seqs.specs.Cells.{code, decoded};
@@ -253,6 +254,17 @@ impl Lists {
         ensures home { HomeIn self.nc (lists self.nc self.nn s.now) n result }
     {
         decode(s[self.home_slot(n)])
+    }
+
+    /// Does c's list have the node n? What is stored is compared: `get_container` would decode it first.
+    #[inline(always)]
+    pub fn has(self, s: &[u32], c: usize, n: usize) -> bool
+        requires linked { Linked self.nc self.nn s.now }
+        requires c_lt_nc { c < self.nc }
+        requires n_lt_nn { n < self.nn }
+        ensures { result ≡ option_eq nat_eq (cont_of n (lists self.nc self.nn s.now)) (Some c) }
+    {
+        s[self.home_slot(n)] == encode(Some(c))
     }
 
     /// Appends all nodes of the list of `donor` to the back of the list of `donee`, and leaves `donor` empty. The two must differ.

@@ -123,13 +123,6 @@ module _ {l : Layout} {m : List ℕ} (S : SoundStore l m) (k : ℕ) (lc : Live (
     pub one_no : (h ≡ Some k → ⊥) → uses_among Q (definition_at l m k) (get_or (Q.tab usg).order i 0 ∷ []) ≡ []
     one_no n = ap (λ (v : ℕ). uses_among Q (definition_at l m k) (v ∷ [])) (sym at) ∙ among_no H n
 
--- a use whose definition stands at another place
-pub some_apart : {d k : ℕ} {h : Rust.Option ℕ} → h ≡ Some d → (d ≡ k → ⊥) → h ≡ Some k → ⊥
-some_apart {d} {k} {h} e n z = n (some_is (sym e ∙ z))
-  where
-    some_is : Rust.Some d ≡ Rust.Some k → d ≡ k
-    some_is q = cc
-
 -- the uses among a list, one after another
 pub among_pieces : (P : State) (d : Definition) → Pieces (uses_among P d)
 unfolding keys_where

@@ -133,8 +133,7 @@ pub fn nth_use(v: &View, k: usize, i: usize) -> Option<u32>
     ensures { listed result ≡ uses_among (state_of v.now.layout v.now.words.now) (definition_at v.now.layout v.now.words.now k) (get_or ((state_of v.now.layout v.now.words.now).tab usg).order i 0 ∷ []) }
 {
     let u = v.nth_live(Kind::Use, i);
-    // A live use is in a set: a test of that alone is the shortest, and this loop is the listing's longest.
-    if v.home_of(Family::UseSets, u).unwrap() == k {
+    if v.has(Family::UseSets, k, u) {
         Some(v.number_of(Kind::Use, u))
     } else {
         None

@@ -2,15 +2,16 @@ use mathlib.Core.Path.{sym, ap, ◌∙◌}
 use Prim.Native.Nat.{ℕ}
 use mathlib.Core.List.{[], ◌∷◌}
 use Rattle.std.specs.Prelude.{Some}
+use Rattle.seqs.proofs.Cells.{same, differ}
 use Rattle.context.proofs.Viewed.{sound_of}
-use Rattle.listing.proofs.Uses.{one_yes, one_no, some_apart}
+use Rattle.listing.proofs.Uses.{one_yes, one_no}
 use Rattle.listing.proofs.nth_use.Goals as goal
 
-pub returns-then-unwrap-k : goal.returns-then-unwrap-k
-returns-then-unwrap-k c =
+pub returns-then-has : goal.returns-then-has
+returns-then-has c =
     ap (λ (x : ℕ). x ∷ []) c.number_of.ensures.is
-    ∙ sym (one_yes (sound_of c.args.v.now.sound) c.args.k c.requires.live c.nth_live-u.result c.nth_live-u.ensures.live c.home_of.ensures c.args.i c.nth_live-u.ensures.is (c.unwrap.ensures ∙ ap Some c.if-unwrap-k.true))
+    ∙ sym (one_yes (sound_of c.args.v.now.sound) c.args.k c.requires.live c.nth_live-u.result c.nth_live-u.ensures.live c.has.ensures.at c.args.i c.nth_live-u.ensures.is (same c.has.ensures.home (Some c.args.k) (sym c.if-has.true ∙ c.has.ensures.is)))
 
-pub returns-else-unwrap-k : goal.returns-else-unwrap-k
-returns-else-unwrap-k c =
-    sym (one_no (sound_of c.args.v.now.sound) c.args.k c.requires.live c.nth_live-u.result c.nth_live-u.ensures.live c.home_of.ensures c.args.i c.nth_live-u.ensures.is (some_apart c.unwrap.ensures c.if-unwrap-k.false))
+pub returns-else-has : goal.returns-else-has
+returns-else-has c =
+    sym (one_no (sound_of c.args.v.now.sound) c.args.k c.requires.live c.nth_live-u.result c.nth_live-u.ensures.live c.has.ensures.at c.args.i c.nth_live-u.ensures.is (differ c.has.ensures.home c.args.k (sym c.if-has.false ∙ c.has.ensures.is)))

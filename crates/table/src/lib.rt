@@ -18,7 +18,7 @@ pub fn number_at(t: &[u32], n: usize, p: usize) -> Option<u32>
     t[2 + n + p].checked_sub(1)
 }
 
-// Kept (point 1): the search by halves and the test of the order compare stamps as they are stored, with 0 below all of them.
+// Kept (point 1): the searches for a number and the test of the order compare stamps as they are stored, with 0 below all of them.
 // The stamp of the place `p`: its birth number + 1, and 0 where it is free.
 #[inline(always)]
 fn stamp_at(t: &[u32], n: usize, p: usize) -> usize
@@ -74,7 +74,7 @@ pub fn find(t: &[u32], n: usize, number: u32) -> Option<usize>
         return None;
     }
     let p = order_at(t, n, k);
-    if number_at(t, n, p) == Some(number) {
+    if stamp_at(t, n, p) == number as usize + 1 {
         Some(p)
     } else {
         None

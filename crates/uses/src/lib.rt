@@ -9,8 +9,8 @@ ghost use Rattle.edit.specs.Taken.{fields_of, edit_by};
 ghost use Rattle.edit.specs.declared.Kind.TheVariants.{ReplaceSome, RetargetSome};
 ghost use Rattle.places.specs.Store.{usg, slots, use_sets, Live};
 ghost use Rattle.context.specs.Layout.{nc_of};
-ghost use Rattle.context.specs.Memory.{con, state_of, SoundStore};
-ghost use Rattle.context.specs.Reading.{list_of};
+ghost use Rattle.context.specs.Memory.{con, state_of, Well, SoundStore};
+ghost use Rattle.context.specs.Reading.{list_of, DefNumberIs};
 ghost use Rattle.context.specs.Steps.{CanMove};
 ghost use Rattle.context.specs.Performed.{Performed};
 ghost use Rattle.uses.specs.declared.TheConstants.{BLOCK_PLACES};
@@ -44,6 +44,15 @@ pub fn def_of(v: &View, sl: Slot, number: u32) -> Result<usize, Refusal>
 {
     let p = v.look_up(context::definition_kind(sl), number)?;
     Ok(context::use_set_of(v.layout, sl, p))
+}
+
+// The number of the definition whose set of uses is `d`.
+pub fn def_number(m: &[u32], l: Layout, d: usize) -> u32
+    requires well { Well l m.now }
+    requires live { Live (state_of l m.now) (con l use_sets d).1 }
+    ensures { DefNumberIs l d m.now result }
+{
+    context::value::definition_number(m, l, d)
 }
 
 // Kinds 3 and 8: a use of the definition is put last.

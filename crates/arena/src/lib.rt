@@ -22,7 +22,8 @@ pub fn front_len(n: usize) -> usize
     2 + n + n
 }
 
-// How many cells an arena of `n` places has: its table's, and two for each 64 places of the map.
+// How many cells an arena of `n` places has: its table's, and two for each 64 places of the map. By a shift and not `div_ceil`, since a
+// look-up works out several sizes.
 #[inline(always)]
 pub fn size(n: usize) -> usize
     requires { n ≤ 16384 }

@@ -19,7 +19,7 @@ pub struct View<'a> {
     pub ghost sound: { ∥ SoundStore layout words.now ∥₁ },
 }
 
-// Kept (point 2): each reads by the function of the same name, which asks less: that the parts are well formed.
+// Kept (point 2): those that read a part call the function of the same name, which asks less: that the parts are well formed.
 impl<'a> View<'a> {
     // The place of the live thing of the kind `k` with this number.
     #[inline(always)]

@@ -32,7 +32,7 @@ pub struct Nodes<'a> {
     lists: Lists,
     words: &'a [u32],
 
-    // As it is stored: a step then waits for one word alone.
+    // As it is stored: a step then reads one word.
     next: u32,
 }
 

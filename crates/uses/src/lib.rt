@@ -226,7 +226,7 @@ pub fn place_listed(m: &mut [u32], l: Layout, d: usize, e: usize, rec: &[u8])
     }
 }
 
-// Kind 34: the listed uses of this value become uses of the other.
+// Kind 34: the listed uses of this value become uses of the other. Compiled by itself, so that its loop keeps what it needs in registers.
 #[inline(never)]
 pub fn replace_some(m: &mut [u32], l: Layout, rec: &[u8]) -> Answer
     requires { SoundStore l m.old }
@@ -314,7 +314,7 @@ fn retarget_listed(m: &mut [u32], l: Layout, d: usize, e: usize, rec: &[u8])
     }
 }
 
-// Kind 35: the uses of this block at operations of listed blocks become uses of the other.
+// Kind 35: the uses of this block at operations of listed blocks become uses of the other. Compiled by itself, likewise.
 #[inline(never)]
 pub fn retarget_some(m: &mut [u32], l: Layout, rec: &[u8]) -> Answer
     requires { SoundStore l m.old }

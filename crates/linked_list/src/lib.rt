@@ -57,7 +57,11 @@ impl<'a> Iterator for Nodes<'a> {
 
     #[inline(always)]
     fn next(&mut self) -> Option<usize> {
-        let n = decode(self.next)?;
+        // Tested before it is decoded: a None would have a payload too, and each step would choose between the two.
+        if self.next == 0 {
+            return None;
+        }
+        let n = decode(self.next).unwrap();
         self.next = self.words[self.lists.next_slot(n)];
         Some(n)
     }

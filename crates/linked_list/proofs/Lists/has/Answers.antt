@@ -1,4 +1,3 @@
-use Rattle.std.proofs.Common.{◌∙◌}
 use Rattle.linked_list.proofs.Getters.{has_is}
 use Rattle.linked_list.proofs.Lists.has.Goals as goal
 

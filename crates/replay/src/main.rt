@@ -8,7 +8,8 @@ ghost use Rattle.rules.specs.Listing.{output};
 
 use program::{MOST_OUTPUT, MOST_READ};
 
-// Whether the program prints just this for the script.
+// Whether the program prints just this for the script. Compiled by itself: its buffer is then cleared once for each script.
+#[inline(never)]
 fn prints(script: &[u8], want: &[u8]) -> bool
     ensures { Says result (output script.now ≡ want.now) }
 {

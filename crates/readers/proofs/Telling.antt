@@ -6,7 +6,7 @@ use mathlib.Core.List.{List, [], ◌∷◌, ◌++◌}
 use native.Mathlib.Decide.{dec_lt}
 use native.Mathlib.Nat.{zero-add}
 use native.Mathlib.Omega.{arith}
-use Prim.Native.Nat.{ℕ, ◌+◌, ◌-◌, ◌≤◌, ◌<◌}
+use Prim.Native.Nat.{ℕ, ◌-◌, ◌≤◌, ◌<◌}
 use lib.Dec.{eqb, leb}
 use lib.ListN.{length, drop}
 use borrow.Author.Tests.{le-leb, lt-leb}
@@ -15,12 +15,14 @@ use Rattle.places.specs.Store.{Kind, blk, val, usg, use_sets, Con, State, Live}
 use Rattle.places.specs.View.{num, view}
 use Rattle.places.specs.Hist.{def_by, hist, rule_state, meaning}
 use Rattle.places.specs.Alias.{RState}
-use Rattle.places.specs.Roles.{def_kind, def_role}
+use Rattle.places.specs.Roles.{missing_code, def_kind, def_role}
 use Rattle.places.proofs.RuleNames as names
 use Rattle.edit.specs.Record.{Definition, of_value, of_block, Slot, operand, successor}
 use Rattle.edit.specs.declared.Refusal.{Refusal}
 use Rattle.edit.specs.declared.Refusal.TheVariants.{NoRoom}
-use Rattle.edit.specs.Kinds.{number_of}
+use Rattle.edit.specs.declared.Slot.{Slot as Asked}
+use Rattle.edit.specs.declared.Slot.TheVariants.{Operand, Successor}
+use Rattle.edit.specs.Kinds.{number_of, slot_of}
 use Rattle.rules.specs.History.{live_definition, uses_of}
 use Rattle.context.specs.declared.Layout.{Layout}
 use Rattle.context.specs.Memory.{con, ListIs, state_of, SoundStore, LengthIs, LooksUp}
@@ -107,6 +109,16 @@ module _ {l : Layout} {m : List ℕ} (S : SoundStore l m) where
       -- its set of uses
       pub set_is : {i : ℕ} → ListIs l use_sets (def_role s, (def_kind s, p)) i → definition_at l m i ≡ def_by (def_role s) n
       set_is L = ap (λ (c : Con). def_by c.0 (num P c.1)) L.row ∙ ap (λ (j : Kind). def_by (def_role s) (num P (j, p))) (sym e) ∙ ap (def_by (def_role s)) h.1
+
+  -- the same of what was made of the look-up's answer: the place that was found, or a refusal with the number of what is missing
+  pub found_as : (k : Kind) (n : ℕ) {p : ℕ} (r : Result ℕ Refusal) → LooksUp P k n r → ((q : ℕ) → r ≡ Ok q → q ≡ p) → ((x : Refusal) → r ≡ Err x → ⊥) → LooksUp P k n (Ok p)
+  found_as k n (Ok q) h f g = subst (λ (p : ℕ). LooksUp P k n (Ok p)) (f q refl) h
+  found_as k n (Err x) h f g = absurd (g x refl)
+
+  pub refused_as : (w : Asked) {k : Kind} → k ≡ def_kind (slot_of w) → (n : ℕ) (out : List ℕ) {y : Refusal} (r : Result ℕ Refusal) → LooksUp P k n r → ((q : ℕ) → r ≡ Ok q → ⊥) → (w ≡ Operand → (x : Refusal) → r ≡ Err x → number_of x ≡ 10 → number_of y ≡ 10) → (w ≡ Successor → (x : Refusal) → r ≡ Err x → number_of x ≡ 8 → number_of y ≡ 8) → Told (abs l m) (def_by (def_role (slot_of w)) n) out out (Err y)
+  refused_as w e n out (Ok q) h d f g = absurd (d q refl)
+  refused_as Operand e n out (Err x) h d f g = not_there operand e n out (h.0, f refl x refl (h.1 ∙ ap missing_code e) ∙ sym (ap missing_code e))
+  refused_as Successor e n out (Err x) h d f g = not_there successor e n out (h.0, g refl x refl (h.1 ∙ ap missing_code e) ∙ sym (ap missing_code e))
 
   module _ (k : ℕ) (lc : Live P (con l use_sets k).1) where
     abbrev d : Definition

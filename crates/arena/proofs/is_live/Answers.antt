@@ -1,6 +1,7 @@
 -- A place is live exactly where it has a stamp. Assumes nothing.
-use Rattle.std.proofs.Common.{ap, ◌∙◌, ℕ, take, ltb, arith}
+use Rattle.std.proofs.Common.{rules, tests, ap, ◌∙◌, ◌≡◌, refl, Bool, true, false, ℕ, take, ltb, arith}
 use Rattle.std.proofs.lemmas.Bool.{le-ltb}
+use Rattle.std.specs.Prelude.{Option, Some, None, is_some}
 use Rattle.seqs.specs.Cells.{decoded}
 use Rattle.seqs.proofs.Cells.{says_some}
 use Rattle.arena.specs.Packed.{Alive}
@@ -9,9 +10,14 @@ use Rattle.table.proofs.Checks.{says_false}
 use Rattle.table.proofs.Live.{live_stamp, stamp_live}
 use Rattle.arena.proofs.is_live.Goals as goal
 
+-- any test that fails for nothing and passes for each number
+some_by : (r : Option ℕ) {b : Bool} → (r ≡ None → b ≡ false) → ((x : ℕ) → r ≡ Some x → b ≡ true) → b ≡ is_some r
+some_by None f g = f refl
+some_by (Some x) f g = g x refl
+
 pub returns-then-p-n : goal.returns-then-p-n
 returns-then-p-n c =
-    says_some c.is_some.result c.is_some.ensures (c.number_at.ensures ∙ ap (λ (k : ℕ). decoded (stamp c.args.n (take k c.args.m.now) c.args.p)) c.front_len.ensures)
+    says_some _ (some_by c.number_at.result (λ e. search (rules, tests, e)) (λ x e. search (rules, tests, e))) (c.number_at.ensures ∙ ap (λ (k : ℕ). decoded (stamp c.args.n (take k c.args.m.now) c.args.p)) c.front_len.ensures)
     (λ h. stamp_live c.requires.table _ c.if-p-n.true h)
     (λ a. (live_stamp c.requires.table _ a).1)
 

@@ -1,8 +1,8 @@
 -- Each kind's edit is the one that its arm carries out. Assumes nothing.
 use Rattle.std.proofs.Common.{rules}
 use Rattle.edit.specs.Taken.{fields_of}
-use Rattle.edit.proofs.ByKind.{by_push_use, by_insert_use, by_replace_use, by_remove_use, by_pop_use, by_push_value, by_insert_value, by_remove_value, by_pop_value, by_link_after, by_link_before, by_link_front, by_link_back, by_unlink, by_move_region, by_move_use, by_drop_uses, by_verdict, by_erase_region}
-use Rattle.edits.proofs.ByKind.{same_edit, carried, by_erase}
+use Rattle.edit.proofs.ByKind.{by_push_use, by_insert_use, by_replace_use, by_remove_use, by_pop_use, by_push_value, by_insert_value, by_remove_value, by_pop_value, by_link_after, by_link_before, by_link_front, by_link_back, by_unlink, by_move_region, by_move_use, by_verdict, by_erase_region}
+use Rattle.edits.proofs.ByKind.{same_edit, carried, drop_carried, by_erase}
 use Rattle.edits.proofs.Zeros.{to_walk, same_zeros}
 use Rattle.edits.proofs.perform.Goals as goal
 
@@ -79,7 +79,7 @@ pub returns-in-MoveUse : goal.returns-in-MoveUse
 returns-in-MoveUse c = carried (cc (by_move_use (fields_of c.args.rec.now) c.in-MoveUse.slot)) c.move_use_to.ensures
 
 pub returns-in-DropUses : goal.returns-in-DropUses
-returns-in-DropUses c = carried (cc (by_drop_uses (fields_of c.args.rec.now) c.in-DropUses.thing)) c.drop_uses.ensures
+returns-in-DropUses c = drop_carried (fields_of c.args.rec.now) c.in-DropUses.thing c.in-DropUses.is c.drop_uses.ensures (λ e. search (rules, e)) (λ e. search (rules, e)) (λ e. search (rules, e))
 
 pub returns-in-Verdict : goal.returns-in-Verdict
 returns-in-Verdict c = carried (cc (by_verdict (fields_of c.args.rec.now) c.in-Verdict.thing)) c.verdict.ensures

@@ -5,22 +5,14 @@
 ghost use Rattle.std.specs.Prelude.{◌≡◌, length};
 ghost use Rattle.arena.specs.Packed.{Packed};
 
-use std::{fmt, io};
+use std::io;
+use unbuffered::Unbuffered;
 
 // What a birth lacks.
 #[derive(Clone, Copy)]
 enum Lack {
     Place,
     Number,
-}
-
-impl fmt::Display for Lack {
-    fn fmt<W: fmt::Write>(&self, f: &mut fmt::Formatter<W>) -> fmt::Result {
-        f.write_str(match self {
-            Lack::Place => "no place left",
-            Lack::Number => "no number left",
-        })
-    }
 }
 
 fn try_birth(m: &mut [u32], n: usize) -> Result<usize, Lack>
@@ -39,19 +31,20 @@ fn try_birth(m: &mut [u32], n: usize) -> Result<usize, Lack>
 // One birth, and what it answers.
 fn birth(rt: &impl Print, m: &mut [u32], n: usize) -> io::Result<()> {
     if !arena::check(m, n) {
-        return println!(rt; "birth: refused");
+        return print!(rt; "birth: refused\n");
     }
     let number = arena::upcoming(m, n);
     match try_birth(m, n) {
         Ok(place) => println!(rt; "birth: number {number} at place {place}"),
-        Err(lack) => println!(rt; "birth: {lack}"),
+        Err(Lack::Place) => print!(rt; "birth: no place left\n"),
+        Err(Lack::Number) => print!(rt; "birth: no number left\n"),
     }
 }
 
 // As many births as there are places, and then how many things live.
 fn fill(rt: &impl Print, m: &mut [u32], n: usize) -> io::Result<()> {
     if !arena::check(m, n) {
-        return println!(rt; "fill: refused");
+        return print!(rt; "fill: refused\n");
     }
     for _ in 0..n {
         if try_birth(m, n).is_err() {
@@ -59,36 +52,36 @@ fn fill(rt: &impl Print, m: &mut [u32], n: usize) -> io::Result<()> {
         }
     }
     let taken = arena::taken(m, n);
-    println!(rt; "fill: {taken} of {n} places taken")
+    print!(rt; "fill: {taken} of {n} places taken\n")
 }
 
 // The thing at place `p` ends.
 fn end(rt: &impl Print, m: &mut [u32], n: usize, p: usize) -> io::Result<()> {
     if !arena::check(m, n) {
-        return println!(rt; "end: refused");
+        return print!(rt; "end: refused\n");
     }
     if !arena::is_live(m, n, p) {
-        return println!(rt; "end: place {p} is free");
+        return print!(rt; "end: place {p} is free\n");
     }
     arena::end(m, n, p);
-    println!(rt; "end: place {p} freed")
+    print!(rt; "end: place {p} freed\n")
 }
 
 // Where the thing with the number `x` lives.
 fn find(rt: &impl Print, m: &[u32], n: usize, x: u32) -> io::Result<()> {
     if !arena::check(m, n) {
-        return println!(rt; "find: refused");
+        return print!(rt; "find: refused\n");
     }
     match arena::find(m, n, x) {
         Some(p) => println!(rt; "find: number {x} at place {p}"),
-        None => println!(rt; "find: number {x} is not alive"),
+        None => print!(rt; "find: number {x} is not alive\n"),
     }
 }
 
 // The things alive, number@place, by rising number.
 fn list(rt: &impl Print, m: &[u32], n: usize) -> io::Result<()> {
     if !arena::check(m, n) {
-        return println!(rt; "live: refused");
+        return print!(rt; "live: refused\n");
     }
     print!(rt; "live:")?;
     for k in 0..arena::taken(m, n) {
@@ -102,16 +95,16 @@ fn list(rt: &impl Print, m: &[u32], n: usize) -> io::Result<()> {
 // What the check says of a slice.
 fn verdict(rt: &impl Print, m: &[u32], n: usize, what: &str) -> io::Result<()> {
     let verdict = if arena::check(m, n) {
-        "an arena"
+        ": an arena\n"
     } else {
-        "refused"
+        ": refused\n"
     };
-    println!(rt; "check: {what}: {verdict}")
+    print!(rt; "check: {what}{verdict}")
 }
 
 // One place: born, full, ended, born again with another number.
 fn one_place(rt: &impl Print) -> io::Result<()> {
-    println!(rt; "one place")?;
+    print!(rt; "one place\n")?;
     let mut m = [0u32; 6];
     arena::start(&mut m, 1);
     birth(rt, &mut m, 1)?;
@@ -127,7 +120,7 @@ fn one_place(rt: &impl Print) -> io::Result<()> {
 
 // All places of the largest arena: freed ones are taken again, the lowest first, and in the last word too.
 fn all_places(rt: &impl Print) -> io::Result<()> {
-    println!(rt; "16,384 places")?;
+    print!(rt; "16,384 places\n")?;
     let mut m = [0u32; 33282];
     arena::start(&mut m, 16384);
     fill(rt, &mut m, 16384)?;
@@ -147,7 +140,7 @@ fn all_places(rt: &impl Print) -> io::Result<()> {
 
 // The largest birth number, and none after it.
 fn last_number(rt: &impl Print) -> io::Result<()> {
-    println!(rt; "the last number")?;
+    print!(rt; "the last number\n")?;
     let mut m = [0u32; 10];
     arena::start(&mut m, 3);
     birth(rt, &mut m, 3)?;
@@ -162,7 +155,7 @@ fn last_number(rt: &impl Print) -> io::Result<()> {
 
 // Slices that hold no arena.
 fn damaged(rt: &impl Print) -> io::Result<()> {
-    println!(rt; "damaged slices")?;
+    print!(rt; "damaged slices\n")?;
     let mut m = [0u32; 10];
     arena::start(&mut m, 3);
     fill(rt, &mut m, 3)?;
@@ -193,14 +186,14 @@ fn damaged(rt: &impl Print) -> io::Result<()> {
     birth(rt, &mut m, 3)
 }
 
-fn run(rt: HostRuntime) -> io::Result<()> {
-    one_place(&rt)?;
-    all_places(&rt)?;
-    last_number(&rt)?;
-    damaged(&rt)
+fn run(rt: &impl Print) -> io::Result<()> {
+    one_place(rt)?;
+    all_places(rt)?;
+    last_number(rt)?;
+    damaged(rt)
 }
 
-// Output that cannot be written is no failure: the program ends silently, with status 0.
+// Output that cannot be written is no failure: the program goes on, and ends silently, with status 0.
 fn main(rt: HostRuntime) {
-    let _ = run(rt);
+    let _ = run(&Unbuffered(&rt));
 }

@@ -14,11 +14,16 @@ use edit::{Member, Refusal, Slot};
 use listing::Pen;
 use readers::Definition;
 use std::io;
+use unbuffered::Unbuffered;
 
 // What a step was, and whether it was done.
 fn told(rt: &impl Print, what: &str, done: Result<(), Refusal>) -> io::Result<()> {
-    let outcome = if done.is_ok() { "done" } else { "not done" };
-    println!(rt; "{what}: {outcome}")
+    let outcome = if done.is_ok() {
+        ": done\n"
+    } else {
+        ": not done\n"
+    };
+    print!(rt; "{what}{outcome}")
 }
 
 // A block is born.
@@ -152,9 +157,8 @@ fn put_into(m: &mut [u32], l: Layout, x: u32, y: u32) -> Result<(), Refusal>
     Ok(())
 }
 
-// A name and words, on one line.
-fn words(rt: &impl Print, name: &str, part: &[u32]) -> io::Result<()> {
-    print!(rt; "{name}")?;
+// Words, to the end of the line.
+fn words(rt: &impl Print, part: &[u32]) -> io::Result<()> {
     for w in part {
         print!(rt; " {w}")?;
     }
@@ -173,7 +177,8 @@ fn print_tables(rt: &impl Print, m: &[u32], l: Layout) -> io::Result<()>
     ];
     for (name, k) in tables {
         let t = context::table_span(l, k);
-        words(rt, name, &m[t.at..t.end])?;
+        print!(rt; "{name}")?;
+        words(rt, &m[t.at..t.end])?;
     }
     Ok(())
 }
@@ -191,7 +196,8 @@ fn print_families(rt: &impl Print, m: &[u32], l: Layout) -> io::Result<()>
     ];
     for (name, f) in families {
         let s = context::family_span(l, f);
-        words(rt, name, &m[s.at..s.end])?;
+        print!(rt; "{name}")?;
+        words(rt, &m[s.at..s.end])?;
     }
     Ok(())
 }
@@ -200,14 +206,12 @@ fn print_families(rt: &impl Print, m: &[u32], l: Layout) -> io::Result<()>
 fn print_words(rt: &impl Print, m: &[u32], l: Layout) -> io::Result<()>
     requires { SoundStore l m.now }
 {
-    words(rt, "capacities", &m[..5])?;
+    print!(rt; "capacities")?;
+    words(rt, &m[..5])?;
     print_tables(rt, m, l)?;
     print_families(rt, m, l)?;
-    words(
-        rt,
-        "flags and types",
-        &m[context::flags_at(l)..context::size(l)],
-    )
+    print!(rt; "flags and types")?;
+    words(rt, &m[context::flags_at(l)..context::size(l)])
 }
 
 // The listing.
@@ -232,31 +236,33 @@ fn print_listing(rt: &impl Print, m: &[u32], l: Layout) -> io::Result<()>
 fn print_uses_of(
     rt: &impl Print,
     m: &[u32],
-    name: &str,
+    what: &str,
     definition: Definition,
     out: &mut [u32],
 ) -> io::Result<()> {
+    let (Definition::Value(number) | Definition::Block(number)) = definition;
+    print!(rt; "{what}{number}")?;
     match readers::front_uses(m, definition, out) {
-        Ok(part) => words(rt, name, part),
-        Err(refusal) => println!(rt; "{name} no {}", u32::from(refusal)),
+        Ok(part) => words(rt, part),
+        Err(refusal) => println!(rt; " no {}", u32::from(refusal)),
     }
 }
 
 // Those of both values and of the block, and each refusal.
 fn print_uses(rt: &impl Print, m: &[u32]) -> io::Result<()> {
     let mut out = [0u32; 2];
-    print_uses_of(rt, m, "uses of value 0", Definition::Value(0), &mut out)?;
-    print_uses_of(rt, m, "uses of value 1", Definition::Value(1), &mut out)?;
-    print_uses_of(rt, m, "uses of value 2", Definition::Value(2), &mut out)?;
+    print_uses_of(rt, m, "uses of value ", Definition::Value(0), &mut out)?;
+    print_uses_of(rt, m, "uses of value ", Definition::Value(1), &mut out)?;
+    print_uses_of(rt, m, "uses of value ", Definition::Value(2), &mut out)?;
     print_uses_of(
         rt,
         m,
-        "no room for uses of value 0",
+        "no room for uses of value ",
         Definition::Value(0),
         &mut [],
     )?;
-    print_uses_of(rt, m, "uses of block 0", Definition::Block(0), &mut out)?;
-    print_uses_of(rt, m, "uses of block 1", Definition::Block(1), &mut out)
+    print_uses_of(rt, m, "uses of block ", Definition::Block(0), &mut out)?;
+    print_uses_of(rt, m, "uses of block ", Definition::Block(1), &mut out)
 }
 
 // A block with one argument.
@@ -300,7 +306,7 @@ fn change(rt: &impl Print, m: &mut [u32], l: Layout) -> io::Result<()>
     told(rt, "own result as operand", d)
 }
 
-fn run(rt: HostRuntime) -> io::Result<()> {
+fn run(rt: &impl Print) -> io::Result<()> {
     let mut store = [0u32; 89];
     let l = Layout {
         ops: 1,
@@ -310,17 +316,17 @@ fn run(rt: HostRuntime) -> io::Result<()> {
         uses: 2,
     };
     if context::start(&mut store, l).is_err() {
-        return println!(rt; "no store");
+        return print!(rt; "no store\n");
     }
-    make_block(&rt, &mut store, l)?;
-    make_operation(&rt, &mut store, l)?;
-    change(&rt, &mut store, l)?;
-    print_words(&rt, &store, l)?;
-    print_listing(&rt, &store, l)?;
-    print_uses(&rt, &store)
+    make_block(rt, &mut store, l)?;
+    make_operation(rt, &mut store, l)?;
+    change(rt, &mut store, l)?;
+    print_words(rt, &store, l)?;
+    print_listing(rt, &store, l)?;
+    print_uses(rt, &store)
 }
 
-// Output that cannot be written is no failure: the program ends silently, with status 0.
+// Output that cannot be written is no failure: the program goes on, and ends silently, with status 0.
 fn main(rt: HostRuntime) {
-    let _ = run(rt);
+    let _ = run(&Unbuffered(&rt));
 }

@@ -14,6 +14,7 @@ ghost use Rattle.linked_list.specs.Links.{Linked};
 
 use linked_list::Lists;
 use std::io;
+use unbuffered::Unbuffered;
 
 // Where in a container's list a node is put: at its front, at its back, or at an index.
 #[derive(Clone, Copy)]
@@ -192,11 +193,11 @@ fn neighbours(rt: &impl Print, lists: Lists, s: &[u32]) -> io::Result<()>
     requires linked { Linked lists.nc lists.nn s.now }
 {
     for n in 0..lists.nn {
-        let mark = if lists.is_linked(s, n) { "*" } else { "" };
+        let mark = if lists.is_linked(s, n) { " *" } else { " " };
         let next = stored(lists.get_next(s, n));
         let prev = stored(lists.get_prev(s, n));
         let container = stored(lists.get_container(s, n));
-        print!(rt; " {mark}{n}:{next},{prev},{container}")?;
+        print!(rt; "{mark}{n}:{next},{prev},{container}")?;
     }
     Ok(())
 }
@@ -216,14 +217,13 @@ fn show(rt: &impl Print, lists: Lists, s: &[u32]) -> io::Result<()>
 fn take_step(rt: &impl Print, lists: Lists, s: &mut [u32], text: [u8; 4]) -> io::Result<()>
     requires s_len { length s.old ≡ 2 * lists.nc + 3 * lists.nn }
 {
-    let [what, a, b, c] = text.map(char::from);
-    print!(rt; "{what}{a}{b}{c}")?;
+    rt.write_all(&text)?;
     let done = match step_of(text) {
         Some(step) => act(rt, lists, s, step)?,
         None => false,
     };
-    let outcome = if done { "done" } else { "refused" };
-    print!(rt; " {outcome}")?;
+    let outcome = if done { " done" } else { " refused" };
+    print!(rt; "{outcome}")?;
     show(rt, lists, s)
 }
 
@@ -241,24 +241,24 @@ fn play(rt: &impl Print, lists: Lists, s: &mut [u32], steps: &[u8]) -> io::Resul
     Ok(())
 }
 
-fn run(rt: HostRuntime) -> io::Result<()> {
+fn run(rt: &impl Print) -> io::Result<()> {
     let mut one = [7u32; 8];
     play(
-        &rt,
+        rt,
         Lists { nc: 1, nn: 2 },
         &mut one,
         b"N000U000F001F001B000N000U001U000A000P000M000M010F100F002",
     )?;
     let mut two = [1u32; 22];
     play(
-        &rt,
+        rt,
         Lists { nc: 2, nn: 6 },
         &mut two,
         b"B000B001F002I013I094A005N000U002U005U004N000B104P005M010M010M100P102U005T005F003T000T096T156T212N000T090T150T210T041U000T043U003",
     )
 }
 
-// Output that cannot be written is no failure: the program ends silently, with status 0.
+// Output that cannot be written is no failure: the program goes on, and ends silently, with status 0.
 fn main(rt: HostRuntime) {
-    let _ = run(rt);
+    let _ = run(&Unbuffered(&rt));
 }

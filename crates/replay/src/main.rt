@@ -7,6 +7,7 @@ ghost use Rattle.seqs.specs.Seqs.{Says};
 ghost use Rattle.rules.specs.Listing.{output};
 
 use program::{MOST_OUTPUT, MOST_READ};
+use unbuffered::Unbuffered;
 
 // Whether the program prints just this for the script. Compiled by itself: its buffer is then cleared once for each script.
 #[inline(never)]
@@ -65,7 +66,7 @@ fn run(rt: HostRuntime) -> std::io::Result<()> {
         scripts += 1;
         differ += u64::from(!same);
     }
-    println!(rt; "{scripts} scripts, {differ} differ")
+    print!(Unbuffered(&rt); "{scripts} scripts, {differ} differ\n")
 }
 
 // Output that cannot be written is no failure: the program ends silently, with status 0.
